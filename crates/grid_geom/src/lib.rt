@@ -1,0 +1,47 @@
+//! Where do points, segments and polygons of the grid lie beside each other, exactly?
+//!
+//! 1. A grid point has whole coordinates of absolute value at most `GRID`.
+//! 2. A rational point (x, y, k), with k at least 1, stands for (x/k, y/k).
+//! 3. No call here takes memory or refuses, and no number passes 128 bits.
+#![tactic(auto)]
+
+mod lists;
+mod orientation;
+
+pub use lists::{Element, Points};
+pub use orientation::orient;
+
+/// The greatest absolute value of a grid point's coordinate.
+pub const GRID: i64 = 1_048_576;
+
+/// The greatest length that a size may have, in grid units: the grid's width.
+pub const LONGEST: u64 = 2_097_152;
+
+/// A point of the grid, in grid units.
+#[derive(Clone, Copy, Debug, PartialEq, Eq)]
+pub struct Point {
+    pub x: i64,
+    pub y: i64,
+}
+
+/// The rational point (x/k, y/k), with k at least 1.
+#[derive(Clone, Copy, Debug, PartialEq, Eq)]
+pub struct RatPoint {
+    pub x: i128,
+    pub y: i128,
+    pub k: i128,
+}
+
+/// A closed box with sides along the axes: `lo` is at most `hi` in each coordinate.
+#[derive(Clone, Copy, Debug, PartialEq, Eq)]
+pub struct Bounds {
+    pub lo: Point,
+    pub hi: Point,
+}
+
+/// A directed edge from `a` to `b`.
+#[derive(Clone, Copy, Debug, PartialEq, Eq)]
+pub struct Edge {
+    pub a: Point,
+    pub b: Point,
+}
