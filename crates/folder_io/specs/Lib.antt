@@ -1,0 +1,7 @@
+-- The words of the contracts.
+--     Causes     Rose, Told, ToldBoth, GrowsByPrefix                         what licenses a failure, and what an object tells
+--     Names      Files, held_at, SameBut, files_of, take_answer, Gives       what stands under the names of a folder
+--     Plans      Plan, fails_next, after_call, MemoryFolder, MemorySink, Failures     which calls of an object in memory fail
+pub mod Causes
+pub mod Names
+pub mod Plans
