@@ -4,7 +4,7 @@ use Rattle.std.proofs.lemmas.List.{at_drop_more, at_drop_all, drop_more}
 use Rattle.std.proofs.lemmas.Bool.{ne_eqb, eqb-true, eqb-false}
 use Rattle.word_scan.specs.declared.scanner.Word.{Word}
 use Rattle.word_scan.specs.declared.scanner.Style.{Style}
-use Rattle.word_scan.specs.declared.scanner.Style.TheVariants.{Spaced}
+use Rattle.word_scan.specs.declared.scanner.Style.TheVariants.{Spaced, Tokens}
 use Rattle.word_scan.specs.declared.scanner.ScanRefusal.TheVariants.{End}
 use Rattle.word_scan.specs.Bytes.{is_white, plain}
 use Rattle.word_scan.specs.Scan.{Mode, Between, InNote, InWord, words_from, StartsWord, Scan, scan_from}
@@ -84,5 +84,6 @@ pub nothing_left : (at start i : ℕ) (text : List ℕ) → words_from Between a
 unfolding words_from
 nothing_left at start i text same past = same ∙ walk_end Between at i text (omega arith)
 
-pub refuses : (style : Style) (text : List ℕ) (place at : ℕ) (scan : Scan) → scan_from style text place at ≡ scan → words_from Between at place (drop place text) ≡ [] → (scan.left ≡ []) × (End ≡ scan.ending)
-refuses Spaced text place at scan e none = subst (λ (s : Scan). (s.left ≡ []) × (End ≡ s.ending)) e (none, refl)
+pub refuses : (style : Style) (text : List ℕ) (place at : ℕ) (scan : Scan) → style ≡ Spaced → scan_from style text place at ≡ scan → words_from Between at place (drop place text) ≡ [] → (scan.left ≡ []) × (End ≡ scan.ending)
+refuses Spaced text place at scan spaced e none = subst (λ (s : Scan). (s.left ≡ []) × (End ≡ s.ending)) e (none, refl)
+refuses Tokens text place at scan spaced e none = absurd cc

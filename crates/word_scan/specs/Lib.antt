@@ -3,3 +3,4 @@ pub mod Parts
 pub mod Scan
 pub mod Numerals
 pub mod Decimals
+pub mod Tokens

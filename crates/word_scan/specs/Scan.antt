@@ -2,10 +2,11 @@
 use Rattle.std.specs.Prelude.{◌≡◌, ◌≢◌, ℕ, ◌+◌, false, ◌==◌, if◌then◌else◌, List, [], ◌∷◌, drop, map}
 use Rattle.word_scan.specs.declared.scanner.Word.{Word}
 use Rattle.word_scan.specs.declared.scanner.Style.{Style}
-use Rattle.word_scan.specs.declared.scanner.Style.TheVariants.{Spaced}
+use Rattle.word_scan.specs.declared.scanner.Style.TheVariants.{Spaced, Tokens}
 use Rattle.word_scan.specs.declared.scanner.ScanRefusal.{ScanRefusal}
 use Rattle.word_scan.specs.declared.scanner.ScanRefusal.TheVariants.{End}
 use Rattle.word_scan.specs.Bytes.{is_white, plain, bytes_of}
+use Rattle.word_scan.specs.Tokens.{Past, tokens_from}
 
 -- the text, the words that are left of it, and the refusal that comes after them
 pub record Scan : Type 0 where
@@ -40,6 +41,7 @@ words_of text = map (bytes_of text) (spaced_words text)
 -- a scanner at a place, with the number of the next word
 abbrev pub scan_from : Style → List ℕ → ℕ → ℕ → Scan
 scan_from Spaced text place at = record { text = text; left = words_from Between at place (drop place text); ending = End }
+scan_from Tokens text place at = let given = tokens_from (Past 0) at place (drop place text) in record { text = text; left = given.0; ending = given.1 }
 
 -- nothing comes next, or a word
 abbrev pub StartsWord : List ℕ → Type 0

@@ -15,7 +15,7 @@ pub struct Dec {
 }
 
 /// Whether a minus stands at the front, and what follows the sign, if there is one.
-fn sign(bytes: &[u8]) -> (bool, &[u8])
+pub fn sign(bytes: &[u8]) -> (bool, &[u8])
     ensures { (result.0, result.1.now) ≡ sign_at bytes.now }
 {
     match bytes {
@@ -26,7 +26,7 @@ fn sign(bytes: &[u8]) -> (bool, &[u8])
 }
 
 /// The digits at the front, and what follows them.
-fn digits(bytes: &[u8]) -> (&[u8], &[u8])
+pub fn digits(bytes: &[u8]) -> (&[u8], &[u8])
     ensures value { (result.0.now, result.1.now) ≡ digits_at bytes.now }
     ensures digits { all_ascii_digits result.0.now ≡ true }
     ensures length { length result.0.now ≤ length bytes.now }
@@ -39,7 +39,7 @@ fn digits(bytes: &[u8]) -> (&[u8], &[u8])
 }
 
 /// The digits behind the point, if one stands at the front, and what follows them.
-fn fraction(bytes: &[u8]) -> (&[u8], &[u8])
+pub fn fraction(bytes: &[u8]) -> (&[u8], &[u8])
     ensures value { (result.0.now, result.1.now) ≡ fraction_at bytes.now }
     ensures digits { all_ascii_digits result.0.now ≡ true }
 {

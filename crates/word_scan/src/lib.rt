@@ -9,6 +9,7 @@ mod decimals;
 mod name;
 mod scanner;
 mod spaced;
+mod tokens;
 mod wholes;
 
 pub use decimals::{Dec, decimal};

@@ -5,7 +5,7 @@ ghost use Rattle.word_scan.specs.Scan.{scan_from};
 ghost use Rattle.word_scan.specs.Bytes.{bytes_of};
 ghost use Rattle.word_scan.specs.Parts.{Reads};
 
-use crate::spaced;
+use crate::{spaced, tokens};
 use std::marker::Model;
 
 /// How a text is cut into words.
@@ -13,6 +13,9 @@ use std::marker::Model;
 pub enum Style {
     /// Words stand between white space and comments.
     Spaced,
+    /// Words are marks, texts, numbers and names, with white space and comments between them or
+    /// nothing at all.
+    Tokens,
 }
 
 /// What sort of word it is. In the spaced style every word is plain.
@@ -110,6 +113,12 @@ impl<'a> Scanner<'a> {
                     to,
                     kind: Kind::Plain,
                 })
+            }
+            Style::Tokens => {
+                let word = tokens::next(self.text, self.place, self.taken + 1)?;
+                self.place = word.to;
+                self.taken += 1;
+                Ok(word)
             }
         }
     }

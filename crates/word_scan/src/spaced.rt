@@ -2,6 +2,7 @@
 
 ghost use Rattle.std.specs.Prelude.{◌≡◌, ℕ, ◌+◌, ◌<◌, ◌≤◌, ◌∷◌, length, drop, slice_index};
 ghost use Rattle.word_scan.specs.Bytes.{is_white, plain};
+ghost use Rattle.word_scan.specs.Tokens.{Past, tokens_from};
 ghost use Rattle.word_scan.specs.Scan.{Between, words_from, StartsWord};
 
 /// White space is space, tab, carriage return and line feed.
@@ -17,6 +18,7 @@ pub fn gap_end(text: &[u8], start: usize) -> usize
     ensures from { start ≤ result }
     ensures within { result ≤ length text.now }
     ensures same { (at : ℕ) → words_from Between at start (drop start text.now) ≡ words_from Between at result (drop result text.now) }
+    ensures tokens { (at : ℕ) → tokens_from (Past 0) at start (drop start text.now) ≡ tokens_from (Past 0) at result (drop result text.now) }
     ensures word { StartsWord (drop result text.now) }
 {
     let mut end = start;
