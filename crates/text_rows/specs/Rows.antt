@@ -1,13 +1,18 @@
 -- Rows of words and numbers.
---     spaced ns      the numbers, each after one space
---     row word ns    a line: the word, the spaced numbers, a line feed
-use Rattle.std.specs.Prelude.{ℕ, List, [], ◌∷◌, ◌++◌}
+--     spaced ns           the numbers, each after one space
+--     spaced_signed zs    the same of whole numbers
+--     row word ns         a line: the word, the spaced numbers, a line feed
+use Rattle.std.specs.Prelude.{ℕ, ℤ, List, [], ◌∷◌, ◌++◌}
 use Rattle.std.specs.List.{flat_map}
-use Rattle.std.specs.Fmt.{decimal}
+use Rattle.std.specs.Fmt.{decimal, signed_decimal}
 
 -- the numbers in their order, each after one space
 abbrev pub spaced : List ℕ → List ℕ
 spaced numbers = flat_map (λ n. 32 ∷ decimal n) numbers
+
+-- the whole numbers in their order, each after one space
+abbrev pub spaced_signed : List ℤ → List ℕ
+spaced_signed numbers = flat_map (λ z. 32 ∷ signed_decimal z) numbers
 
 -- a line: the word, the numbers each after one space, and a line feed
 abbrev pub row : List ℕ → List ℕ → List ℕ

@@ -5,9 +5,9 @@
 //! what was to be appended.
 #![tactic(auto)]
 
-ghost use Rattle.std.specs.Prelude.{◌≡◌, ℕ, ◌∷◌, [], ◌++◌, OnOk, string_bytes};
+ghost use Rattle.std.specs.Prelude.{◌≡◌, ℕ, ◌≤◌, ◌∷◌, [], ◌++◌, OnOk, string_bytes};
 ghost use Rattle.std.specs.Fmt.{decimal, signed_decimal};
-ghost use Rattle.text_rows.specs.Rows.{spaced, row};
+ghost use Rattle.text_rows.specs.Rows.{spaced, spaced_signed, row};
 
 use std::alloc::AllocError;
 
@@ -50,6 +50,28 @@ pub fn write_spaced(text: &mut String, numbers: &[u64]) -> Result<(), AllocError
     Ok(())
 }
 
+/// Appends the whole numbers in their order, each after one space.
+pub fn write_spaced_signed(text: &mut String, numbers: &[i64]) -> Result<(), AllocError>
+    ensures { OnOk result (string_bytes text.new ≡ string_bytes text.old ++ spaced_signed numbers.now) }
+{
+    for number in numbers {
+        text.push_str(" ")?;
+        write_signed(text, number)?;
+    }
+    Ok(())
+}
+
+/// Appends the whole numbers of up to 128 bits in their order, each after one space.
+pub fn write_spaced_wide(text: &mut String, numbers: &[i128]) -> Result<(), AllocError>
+    ensures { OnOk result (string_bytes text.new ≡ string_bytes text.old ++ spaced_signed numbers.now) }
+{
+    for number in numbers {
+        text.push_str(" ")?;
+        write_wide(text, number)?;
+    }
+    Ok(())
+}
+
 /// Appends a row: the word, the numbers of `front` and then those of `rest`, each after one space,
 /// and a line feed.
 pub fn write_row(
@@ -79,4 +101,54 @@ pub fn write_number_row(
     write_number(text, first)?;
     write_row(text, "", front, rest)?;
     Ok(())
+}
+
+#[cfg(test)]
+mod tests {
+    use super::*;
+    use std::alloc::Global;
+    use std::test::Fail;
+
+    #[test]
+    fn appends_each_form(rt: HostRuntime) -> Result<(), Fail> {
+        let mut text = String::new(rt.alloc());
+        write_number(&mut text, u64::MAX)?;
+        text.push_str(" ")?;
+        write_signed(&mut text, &i64::MIN)?;
+        text.push_str(" ")?;
+        write_wide(&mut text, &i128::MIN)?;
+        write_row(&mut text, " run", &[1, 20], &[])?;
+        write_number_row(&mut text, 7, &[0], &[10, 0])?;
+        write_spaced(&mut text, &[3, 4])?;
+        write_spaced_signed(&mut text, &[-3, 0])?;
+        write_spaced_wide(&mut text, &[-1, 1])?;
+        let written =
+            "18446744073709551615 -9223372036854775808 -170141183460469231731687303715884105728 \
+            run 1 20\n7 0 10 0\n 3 4 -3 0 -1 1";
+        assert_eq!(rt; text.as_str(), written);
+        Ok(())
+    }
+
+    fn fixed_text(alloc: Global, number: i128, places: u32) -> Result<String, AllocError>
+        requires { places ≤ 38 }
+    {
+        let mut text = String::new(alloc);
+        write_fixed(&mut text, &number, places)?;
+        Ok(text)
+    }
+
+    #[test]
+    fn fixes_the_decimals(rt: HostRuntime) -> Result<(), Fail> {
+        assert_eq!(rt; fixed_text(rt.alloc(), 0, 0)?.as_str(), "0");
+        assert_eq!(rt; fixed_text(rt.alloc(), 0, 2)?.as_str(), "0.00");
+        assert_eq!(rt; fixed_text(rt.alloc(), -5, 0)?.as_str(), "-5");
+        assert_eq!(rt; fixed_text(rt.alloc(), -5, 2)?.as_str(), "-0.05");
+        assert_eq!(rt; fixed_text(rt.alloc(), 12300, 4)?.as_str(), "1.2300");
+        let smallest = fixed_text(rt.alloc(), i128::MIN, 38)?;
+        assert_eq!(rt;
+            smallest.as_str(),
+            "-1.70141183460469231731687303715884105728"
+        );
+        Ok(())
+    }
 }
