@@ -6,9 +6,13 @@
 #![tactic(auto)]
 
 mod lists;
+#[cfg(test)]
+mod tests;
+mod write;
 
 use grid_geom::{Element, Points};
 pub use lists::{EdgeRows, MeshElements};
+pub use write::write_vol;
 
 /// One piece of a segment of the geometry, as the segment is walked.
 #[derive(Clone, Copy, Debug, PartialEq, Eq)]

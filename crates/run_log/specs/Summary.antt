@@ -1,0 +1,26 @@
+-- The line that sums a run up.
+use Rattle.std.specs.Prelude.{ℕ, List, [], ◌∷◌, ◌++◌, length, codes}
+use Rattle.std.specs.Prelude.{sum_by}
+use Rattle.std.specs.Fmt.{decimal}
+use Rattle.mesh_run.specs.declared.WholeRun.{WholeRun}
+use Rattle.mesh_run.specs.declared.domain_run.DomainRun.{DomainRun}
+use Rattle.vol_format.specs.declared.Mesh.{Mesh}
+use Rattle.run_log.specs.Log.{end_word}
+
+-- how many applications the domains' runs have together
+abbrev pub application_count : List DomainRun → ℕ
+application_count domains = sum_by (λ d. length d.applications) domains
+
+-- how many front lines are left in all domains
+abbrev pub front_count : List DomainRun → ℕ
+front_count domains = sum_by (λ d. length d.front) domains
+
+-- how the run ended, and how much it has of each kind, where m is its mesh
+abbrev pub summary_line : WholeRun → Mesh → List ℕ
+summary_line w m = end_word w.end
+    ++ codes " domains " ++ decimal (length w.domains)
+    ++ codes " applications " ++ decimal (application_count w.domains)
+    ++ codes " points " ++ decimal (length m.points)
+    ++ codes " elements " ++ decimal (length m.elements)
+    ++ codes " front " ++ decimal (front_count w.domains)
+    ++ 10 ∷ []
