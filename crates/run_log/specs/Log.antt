@@ -79,10 +79,14 @@ counted_places ps = spaced (length ps ∷ []) ++ flat_map place_words ps
 abbrev pub counted_elements : List (List ℕ) → List ℕ
 counted_elements es = spaced (length es ∷ []) ++ flat_map counted_numbers es
 
+-- the class, the base line and the rule of an application
+abbrev pub base_numbers : Application → List ℕ
+base_numbers a = a.class ∷ a.line ∷ a.rule ∷ []
+
 -- an application: class, base line and rule, then the mapped points, the new points and the
 -- elements, each list after its length
 abbrev pub application_row : Application → List ℕ
-application_row a = codes "a" ++ spaced (a.class ∷ a.line ∷ a.rule ∷ [])
+application_row a = codes "a" ++ spaced (base_numbers a)
     ++ counted_numbers a.points ++ counted_places a.made ++ counted_elements a.elements ++ 10 ∷ []
 
 -- a front line that is left: its number and its ends

@@ -1,8 +1,8 @@
 // The line that sums a run up.
 
-ghost use Rattle.std.specs.Prelude.{◌≡◌, ◌++◌, IfOk, OnOk, string_bytes};
-ghost use Rattle.std.specs.Fmt.{decimal};
-ghost use Rattle.run_log.specs.Summary.{application_count, front_count, summary_line};
+ghost use Rattle.std.specs.Prelude.{◌≡◌, IfOk};
+ghost use Rattle.text_rows.specs.Rows.{Appends};
+ghost use Rattle.run_log.specs.Summary.{application_count, front_count, named_count, summary_line};
 
 use super::end_word::write_end;
 use mesh_run::{DomainRun, WholeRun};
@@ -27,8 +27,9 @@ pub fn write_summary(alloc: Global, w: &WholeRun, m: &Mesh) -> Result<Vec<u8>, A
     Ok(text.into_bytes())
 }
 
+#[tactic(auto, unfolding(crate::specs::Summary::named_count))]
 fn write_count(text: &mut String, word: &str, count: u128) -> Result<(), AllocError>
-    ensures { OnOk result (string_bytes text.new ≡ string_bytes text.old ++ word.now ++ decimal count) }
+    ensures { Appends result text.old text.new (named_count word.now count) }
 {
     text.push_str(word)?;
     write!(text, "{count}")?;

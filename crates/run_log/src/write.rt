@@ -1,9 +1,9 @@
 // The text of a log.
 
-ghost use Rattle.std.specs.Prelude.{◌≡◌, ℕ, ◌∷◌, [], ◌++◌, length, IfOk, OnOk, string_bytes};
+ghost use Rattle.std.specs.Prelude.{◌≡◌, ◌∷◌, IfOk};
 ghost use Rattle.std.specs.List.{flat_map};
-ghost use Rattle.text_rows.specs.Rows.{spaced};
-ghost use Rattle.run_log.specs.Log.{heading, ending, run_row, limit_word, opening_points, row_counts, domain_row, place_words, point_row, line_row, counted_numbers, counted_places, counted_elements, application_row, front_row, domain_text, log_text};
+ghost use Rattle.text_rows.specs.Rows.{Appends, spaced};
+ghost use Rattle.run_log.specs.Log.{heading, ending, run_row, limit_word, opening_points, row_counts, domain_row, place_words, point_row, line_row, counted_numbers, counted_places, counted_elements, base_numbers, application_row, front_row, domain_text, log_text};
 
 use super::end_word::write_end;
 use grid_geom::{Element, Point};
@@ -26,7 +26,7 @@ pub fn write_log(alloc: Global, w: &WholeRun) -> Result<Vec<u8>, AllocError>
 
 #[tactic(auto, unfolding(crate::specs::Log::heading))]
 fn write_heading(text: &mut String) -> Result<(), AllocError>
-    ensures { OnOk result (string_bytes text.new ≡ string_bytes text.old ++ heading) }
+    ensures { Appends result text.old text.new heading }
 {
     text.push_str("netmeshlog 1\n")?;
     Ok(())
@@ -34,7 +34,7 @@ fn write_heading(text: &mut String) -> Result<(), AllocError>
 
 #[tactic(auto, unfolding(crate::specs::Log::ending))]
 fn write_ending(text: &mut String) -> Result<(), AllocError>
-    ensures { OnOk result (string_bytes text.new ≡ string_bytes text.old ++ ending) }
+    ensures { Appends result text.old text.new ending }
 {
     text.push_str("end\n")?;
     Ok(())
@@ -42,7 +42,7 @@ fn write_ending(text: &mut String) -> Result<(), AllocError>
 
 #[tactic(auto, unfolding(crate::specs::Log::run_row))]
 fn write_run(text: &mut String, shift: &i32, options: &Options) -> Result<(), AllocError>
-    ensures { OnOk result (string_bytes text.new ≡ string_bytes text.old ++ run_row shift.now options.now) }
+    ensures { Appends result text.old text.new (run_row shift.now options.now) }
 {
     text.push_str("run ")?;
     write!(text, "{shift}")?;
@@ -61,7 +61,7 @@ fn write_run(text: &mut String, shift: &i32, options: &Options) -> Result<(), Al
 }
 
 fn write_limit(text: &mut String, limit: Option<u64>) -> Result<(), AllocError>
-    ensures { OnOk result (string_bytes text.new ≡ string_bytes text.old ++ limit_word limit) }
+    ensures { Appends result text.old text.new (limit_word limit) }
 {
     match limit {
         Some(most) => write_number(text, most)?,
@@ -71,7 +71,7 @@ fn write_limit(text: &mut String, limit: Option<u64>) -> Result<(), AllocError>
 }
 
 fn write_domains(text: &mut String, domains: &[DomainRun]) -> Result<(), AllocError>
-    ensures { OnOk result (string_bytes text.new ≡ string_bytes text.old ++ flat_map domain_text domains.now) }
+    ensures { Appends result text.old text.new (flat_map domain_text domains.now) }
 {
     for run in domains {
         write_domain(text, run)?;
@@ -80,7 +80,7 @@ fn write_domains(text: &mut String, domains: &[DomainRun]) -> Result<(), AllocEr
 }
 
 fn write_domain(text: &mut String, run: &DomainRun) -> Result<(), AllocError>
-    ensures { OnOk result (string_bytes text.new ≡ string_bytes text.old ++ domain_text run.now) }
+    ensures { Appends result text.old text.new (domain_text run.now) }
 {
     write_domain_row(text, run)?;
     write_points(text, opened(run))?;
@@ -103,7 +103,7 @@ fn opened(run: &DomainRun) -> &[Point]
 
 #[tactic(auto, unfolding(crate::specs::Log::domain_row))]
 fn write_domain_row(text: &mut String, run: &DomainRun) -> Result<(), AllocError>
-    ensures { OnOk result (string_bytes text.new ≡ string_bytes text.old ++ domain_row run.now) }
+    ensures { Appends result text.old text.new (domain_row run.now) }
 {
     text.push_str("domain")?;
     write_row_counts(text, run)?;
@@ -114,7 +114,7 @@ fn write_domain_row(text: &mut String, run: &DomainRun) -> Result<(), AllocError
 }
 
 fn write_row_counts(text: &mut String, run: &DomainRun) -> Result<(), AllocError>
-    ensures { OnOk result (string_bytes text.new ≡ string_bytes text.old ++ spaced (run.now.domain ∷ row_counts run.now)) }
+    ensures { Appends result text.old text.new (spaced (run.now.domain ∷ row_counts run.now)) }
 {
     write_spaced(
         text,
@@ -130,7 +130,7 @@ fn write_row_counts(text: &mut String, run: &DomainRun) -> Result<(), AllocError
 }
 
 fn write_points(text: &mut String, points: &[Point]) -> Result<(), AllocError>
-    ensures { OnOk result (string_bytes text.new ≡ string_bytes text.old ++ flat_map point_row points.now) }
+    ensures { Appends result text.old text.new (flat_map point_row points.now) }
 {
     for point in points {
         write_point(text, point)?;
@@ -139,7 +139,7 @@ fn write_points(text: &mut String, points: &[Point]) -> Result<(), AllocError>
 }
 
 fn write_point(text: &mut String, point: &Point) -> Result<(), AllocError>
-    ensures { OnOk result (string_bytes text.new ≡ string_bytes text.old ++ point_row point.now) }
+    ensures { Appends result text.old text.new (point_row point.now) }
 {
     text.push_str("p")?;
     write_place(text, point)?;
@@ -148,14 +148,14 @@ fn write_point(text: &mut String, point: &Point) -> Result<(), AllocError>
 }
 
 fn write_place(text: &mut String, point: &Point) -> Result<(), AllocError>
-    ensures { OnOk result (string_bytes text.new ≡ string_bytes text.old ++ place_words point.now) }
+    ensures { Appends result text.old text.new (place_words point.now) }
 {
     write_spaced_signed(text, &[point.x, point.y])?;
     Ok(())
 }
 
 fn write_lines(text: &mut String, lines: &[(u64, u64)]) -> Result<(), AllocError>
-    ensures { OnOk result (string_bytes text.new ≡ string_bytes text.old ++ flat_map line_row lines.now) }
+    ensures { Appends result text.old text.new (flat_map line_row lines.now) }
 {
     for line in lines {
         write_row(text, "l", &[line.0, line.1], &[])?;
@@ -164,7 +164,7 @@ fn write_lines(text: &mut String, lines: &[(u64, u64)]) -> Result<(), AllocError
 }
 
 fn write_applications(text: &mut String, applications: &[Application]) -> Result<(), AllocError>
-    ensures { OnOk result (string_bytes text.new ≡ string_bytes text.old ++ flat_map application_row applications.now) }
+    ensures { Appends result text.old text.new (flat_map application_row applications.now) }
 {
     for application in applications {
         write_application(text, application)?;
@@ -173,7 +173,7 @@ fn write_applications(text: &mut String, applications: &[Application]) -> Result
 }
 
 fn write_application(text: &mut String, application: &Application) -> Result<(), AllocError>
-    ensures { OnOk result (string_bytes text.new ≡ string_bytes text.old ++ application_row application.now) }
+    ensures { Appends result text.old text.new (application_row application.now) }
 {
     text.push_str("a")?;
     write_base(text, application)?;
@@ -186,7 +186,7 @@ fn write_application(text: &mut String, application: &Application) -> Result<(),
 
 // The class, the base line and the rule.
 fn write_base(text: &mut String, application: &Application) -> Result<(), AllocError>
-    ensures { OnOk result (string_bytes text.new ≡ string_bytes text.old ++ spaced (application.now.class ∷ application.now.line ∷ application.now.rule ∷ [])) }
+    ensures { Appends result text.old text.new (spaced (base_numbers application.now)) }
 {
     let class = application.class as u64;
     write_spaced(text, &[class, application.line, application.rule as u64])?;
@@ -194,7 +194,7 @@ fn write_base(text: &mut String, application: &Application) -> Result<(), AllocE
 }
 
 fn write_numbers(text: &mut String, numbers: &[u64]) -> Result<(), AllocError>
-    ensures { OnOk result (string_bytes text.new ≡ string_bytes text.old ++ counted_numbers numbers.now) }
+    ensures { Appends result text.old text.new (counted_numbers numbers.now) }
 {
     write_spaced(text, &[numbers.len() as u64])?;
     write_spaced(text, numbers)?;
@@ -202,7 +202,7 @@ fn write_numbers(text: &mut String, numbers: &[u64]) -> Result<(), AllocError>
 }
 
 fn write_places(text: &mut String, points: &[Point]) -> Result<(), AllocError>
-    ensures { OnOk result (string_bytes text.new ≡ string_bytes text.old ++ counted_places points.now) }
+    ensures { Appends result text.old text.new (counted_places points.now) }
 {
     write_spaced(text, &[points.len() as u64])?;
     for point in points {
@@ -212,7 +212,7 @@ fn write_places(text: &mut String, points: &[Point]) -> Result<(), AllocError>
 }
 
 fn write_elements(text: &mut String, elements: &[Element]) -> Result<(), AllocError>
-    ensures { OnOk result (string_bytes text.new ≡ string_bytes text.old ++ counted_elements elements.now) }
+    ensures { Appends result text.old text.new (counted_elements elements.now) }
 {
     write_spaced(text, &[elements.len() as u64])?;
     for element in elements {
@@ -222,7 +222,7 @@ fn write_elements(text: &mut String, elements: &[Element]) -> Result<(), AllocEr
 }
 
 fn write_front(text: &mut String, lines: &[(u64, u64, u64)]) -> Result<(), AllocError>
-    ensures { OnOk result (string_bytes text.new ≡ string_bytes text.old ++ flat_map front_row lines.now) }
+    ensures { Appends result text.old text.new (flat_map front_row lines.now) }
 {
     for line in lines {
         write_row(text, "f", &[line.0, line.1, line.2], &[])?;

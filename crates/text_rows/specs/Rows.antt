@@ -1,10 +1,15 @@
 -- Rows of words and numbers.
+--     Appends r s t bs    after Ok the text s has grown to t by the bytes bs
 --     spaced ns           the numbers, each after one space
 --     spaced_signed zs    the same of whole numbers
 --     row word ns         a line: the word, the spaced numbers, a line feed
-use Rattle.std.specs.Prelude.{ℕ, ℤ, List, [], ◌∷◌, ◌++◌}
+use Rattle.std.specs.Prelude.{◌≡◌, ℕ, ℤ, List, [], ◌∷◌, ◌++◌, Result, OnOk, String, string_bytes}
 use Rattle.std.specs.List.{flat_map}
 use Rattle.std.specs.Fmt.{decimal, signed_decimal}
+
+-- a call answered Ok only if its text has grown by these bytes at its end
+abbrev pub Appends : {A E Z : Type 0} → Result A E → String Z → String Z → List ℕ → Type 0
+Appends answer old new bytes = OnOk answer (string_bytes new ≡ string_bytes old ++ bytes)
 
 -- the numbers in their order, each after one space
 abbrev pub spaced : List ℕ → List ℕ

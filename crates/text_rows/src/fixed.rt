@@ -1,7 +1,8 @@
 // Numbers with a fixed number of decimals.
 
-ghost use Rattle.std.specs.Prelude.{◌≡◌, ℕ, ◌/◌, ◌^◌, ◌≤◌, ◌++◌, OnOk, string_bytes};
+ghost use Rattle.std.specs.Prelude.{◌≤◌};
 ghost use Rattle.std.specs.Fmt.{decimal, sign_text};
+ghost use Rattle.text_rows.specs.Rows.{Appends};
 ghost use Rattle.text_rows.specs.Fixed.{last_digits, fraction, fixed};
 
 use std::alloc::AllocError;
@@ -10,7 +11,7 @@ use std::alloc::AllocError;
 /// and where `places` is not 0 a point and exactly `places` digits.
 pub fn write_fixed(text: &mut String, number: &i128, places: u32) -> Result<(), AllocError>
     requires { places ≤ 38 }
-    ensures { OnOk result (string_bytes text.new ≡ string_bytes text.old ++ fixed number.now places) }
+    ensures { Appends result text.old text.new (fixed number.now places) }
 {
     let magnitude = number.unsigned_abs();
     write_sign(text, *number < 0)?;
@@ -20,7 +21,7 @@ pub fn write_fixed(text: &mut String, number: &i128, places: u32) -> Result<(), 
 }
 
 fn write_sign(text: &mut String, negative: bool) -> Result<(), AllocError>
-    ensures { OnOk result (string_bytes text.new ≡ string_bytes text.old ++ sign_text negative) }
+    ensures { Appends result text.old text.new (sign_text negative) }
 {
     if negative {
         text.push_str("-")?;
@@ -29,14 +30,14 @@ fn write_sign(text: &mut String, negative: bool) -> Result<(), AllocError>
 }
 
 fn write_magnitude(text: &mut String, number: u128) -> Result<(), AllocError>
-    ensures { OnOk result (string_bytes text.new ≡ string_bytes text.old ++ decimal number) }
+    ensures { Appends result text.old text.new (decimal number) }
 {
     write!(text, "{number}")?;
     Ok(())
 }
 
 fn write_fraction(text: &mut String, number: u128, places: u32) -> Result<(), AllocError>
-    ensures { OnOk result (string_bytes text.new ≡ string_bytes text.old ++ fraction number places) }
+    ensures { Appends result text.old text.new (fraction number places) }
 {
     if places == 0 {
         return Ok(());
@@ -47,7 +48,7 @@ fn write_fraction(text: &mut String, number: u128, places: u32) -> Result<(), Al
 }
 
 fn write_last_digits(text: &mut String, number: u128, places: u32) -> Result<(), AllocError>
-    ensures { OnOk result (string_bytes text.new ≡ string_bytes text.old ++ last_digits number places) }
+    ensures { Appends result text.old text.new (last_digits number places) }
 {
     if places == 0 {
         return Ok(());

@@ -5,9 +5,9 @@
 //! what was to be appended.
 #![tactic(auto)]
 
-ghost use Rattle.std.specs.Prelude.{◌≡◌, ℕ, ◌≤◌, ◌∷◌, [], ◌++◌, OnOk, string_bytes};
+ghost use Rattle.std.specs.Prelude.{◌≤◌, ◌++◌};
 ghost use Rattle.std.specs.Fmt.{decimal, signed_decimal};
-ghost use Rattle.text_rows.specs.Rows.{spaced, spaced_signed, row};
+ghost use Rattle.text_rows.specs.Rows.{Appends, spaced, spaced_signed, row};
 
 use std::alloc::AllocError;
 
@@ -17,7 +17,7 @@ pub use fixed::write_fixed;
 
 /// Appends a number: its digits, without leading noughts.
 pub fn write_number(text: &mut String, number: u64) -> Result<(), AllocError>
-    ensures { OnOk result (string_bytes text.new ≡ string_bytes text.old ++ decimal number) }
+    ensures { Appends result text.old text.new (decimal number) }
 {
     write!(text, "{number}")?;
     Ok(())
@@ -25,7 +25,7 @@ pub fn write_number(text: &mut String, number: u64) -> Result<(), AllocError>
 
 /// Appends a whole number: `-` where it is below 0, then its digits.
 pub fn write_signed(text: &mut String, number: &i64) -> Result<(), AllocError>
-    ensures { OnOk result (string_bytes text.new ≡ string_bytes text.old ++ signed_decimal number.now) }
+    ensures { Appends result text.old text.new (signed_decimal number.now) }
 {
     write!(text, "{number}")?;
     Ok(())
@@ -33,7 +33,7 @@ pub fn write_signed(text: &mut String, number: &i64) -> Result<(), AllocError>
 
 /// Appends a whole number of up to 128 bits: `-` where it is below 0, then its digits.
 pub fn write_wide(text: &mut String, number: &i128) -> Result<(), AllocError>
-    ensures { OnOk result (string_bytes text.new ≡ string_bytes text.old ++ signed_decimal number.now) }
+    ensures { Appends result text.old text.new (signed_decimal number.now) }
 {
     write!(text, "{number}")?;
     Ok(())
@@ -41,7 +41,7 @@ pub fn write_wide(text: &mut String, number: &i128) -> Result<(), AllocError>
 
 /// Appends the numbers in their order, each after one space.
 pub fn write_spaced(text: &mut String, numbers: &[u64]) -> Result<(), AllocError>
-    ensures { OnOk result (string_bytes text.new ≡ string_bytes text.old ++ spaced numbers.now) }
+    ensures { Appends result text.old text.new (spaced numbers.now) }
 {
     for number in numbers {
         text.push_str(" ")?;
@@ -52,7 +52,7 @@ pub fn write_spaced(text: &mut String, numbers: &[u64]) -> Result<(), AllocError
 
 /// Appends the whole numbers in their order, each after one space.
 pub fn write_spaced_signed(text: &mut String, numbers: &[i64]) -> Result<(), AllocError>
-    ensures { OnOk result (string_bytes text.new ≡ string_bytes text.old ++ spaced_signed numbers.now) }
+    ensures { Appends result text.old text.new (spaced_signed numbers.now) }
 {
     for number in numbers {
         text.push_str(" ")?;
@@ -63,7 +63,7 @@ pub fn write_spaced_signed(text: &mut String, numbers: &[i64]) -> Result<(), All
 
 /// Appends the whole numbers of up to 128 bits in their order, each after one space.
 pub fn write_spaced_wide(text: &mut String, numbers: &[i128]) -> Result<(), AllocError>
-    ensures { OnOk result (string_bytes text.new ≡ string_bytes text.old ++ spaced_signed numbers.now) }
+    ensures { Appends result text.old text.new (spaced_signed numbers.now) }
 {
     for number in numbers {
         text.push_str(" ")?;
@@ -80,7 +80,7 @@ pub fn write_row(
     front: &[u64],
     rest: &[u64],
 ) -> Result<(), AllocError>
-    ensures { OnOk result (string_bytes text.new ≡ string_bytes text.old ++ row word.now (front.now ++ rest.now)) }
+    ensures { Appends result text.old text.new (row word.now (front.now ++ rest.now)) }
 {
     text.push_str(word)?;
     write_spaced(text, front)?;
@@ -96,7 +96,7 @@ pub fn write_number_row(
     front: &[u64],
     rest: &[u64],
 ) -> Result<(), AllocError>
-    ensures { OnOk result (string_bytes text.new ≡ string_bytes text.old ++ row (decimal first) (front.now ++ rest.now)) }
+    ensures { Appends result text.old text.new (row (decimal first) (front.now ++ rest.now)) }
 {
     write_number(text, first)?;
     write_row(text, "", front, rest)?;

@@ -1,6 +1,7 @@
 // The text of a vol file.
 
-ghost use Rattle.std.specs.Prelude.{◌≡◌, ℕ, ◌≤◌, ◌∷◌, [], ◌++◌, length, IfOk, OnOk, string_bytes, ℤ, pos, ◌+ℤ◌, ◌*ℤ◌, unsigned_abs};
+ghost use Rattle.std.specs.Prelude.{◌≡◌, ◌≤◌, IfOk, pos, ◌*ℤ◌};
+ghost use Rattle.text_rows.specs.Rows.{Appends};
 ghost use Rattle.vol_format.specs.Vol.{IsShift, places, coordinate, element_row, edge_row, point_row, counted, heading, edge_heading, point_heading, ending, vol_text};
 
 use super::{EdgeRow, Mesh, MeshElement};
@@ -36,7 +37,7 @@ fn places_of(m: &Mesh) -> u32
 
 #[tactic(auto, unfolding(crate::specs::Vol::heading))]
 fn write_heading(text: &mut String) -> Result<(), AllocError>
-    ensures { OnOk result (string_bytes text.new ≡ string_bytes text.old ++ heading) }
+    ensures { Appends result text.old text.new heading }
 {
     text.push_str("mesh3d\ndimension\n2\ngeomtype\n0\nsurfaceelements\n")?;
     Ok(())
@@ -44,7 +45,7 @@ fn write_heading(text: &mut String) -> Result<(), AllocError>
 
 #[tactic(auto, unfolding(crate::specs::Vol::edge_heading))]
 fn write_edge_heading(text: &mut String) -> Result<(), AllocError>
-    ensures { OnOk result (string_bytes text.new ≡ string_bytes text.old ++ edge_heading) }
+    ensures { Appends result text.old text.new edge_heading }
 {
     text.push_str("volumeelements\n0\nedgesegmentsgi2\n")?;
     Ok(())
@@ -52,7 +53,7 @@ fn write_edge_heading(text: &mut String) -> Result<(), AllocError>
 
 #[tactic(auto, unfolding(crate::specs::Vol::point_heading))]
 fn write_point_heading(text: &mut String) -> Result<(), AllocError>
-    ensures { OnOk result (string_bytes text.new ≡ string_bytes text.old ++ point_heading) }
+    ensures { Appends result text.old text.new point_heading }
 {
     text.push_str("points\n")?;
     Ok(())
@@ -60,14 +61,14 @@ fn write_point_heading(text: &mut String) -> Result<(), AllocError>
 
 #[tactic(auto, unfolding(crate::specs::Vol::ending))]
 fn write_ending(text: &mut String) -> Result<(), AllocError>
-    ensures { OnOk result (string_bytes text.new ≡ string_bytes text.old ++ ending) }
+    ensures { Appends result text.old text.new ending }
 {
     text.push_str("endmesh\n")?;
     Ok(())
 }
 
 fn write_elements(text: &mut String, elements: &[MeshElement]) -> Result<(), AllocError>
-    ensures { OnOk result (string_bytes text.new ≡ string_bytes text.old ++ counted element_row elements.now) }
+    ensures { Appends result text.old text.new (counted element_row elements.now) }
 {
     write_number_row(text, elements.len() as u64, &[], &[])?;
     for element in elements {
@@ -77,7 +78,7 @@ fn write_elements(text: &mut String, elements: &[MeshElement]) -> Result<(), All
 }
 
 fn write_element(text: &mut String, element: &MeshElement) -> Result<(), AllocError>
-    ensures { OnOk result (string_bytes text.new ≡ string_bytes text.old ++ element_row element.now) }
+    ensures { Appends result text.old text.new (element_row element.now) }
 {
     let domain = element.domain as u64;
     let corners = element.corners.as_slice();
@@ -86,7 +87,7 @@ fn write_element(text: &mut String, element: &MeshElement) -> Result<(), AllocEr
 }
 
 fn write_edges(text: &mut String, edges: &[EdgeRow]) -> Result<(), AllocError>
-    ensures { OnOk result (string_bytes text.new ≡ string_bytes text.old ++ counted edge_row edges.now) }
+    ensures { Appends result text.old text.new (counted edge_row edges.now) }
 {
     write_number_row(text, edges.len() as u64, &[], &[])?;
     for edge in edges {
@@ -96,7 +97,7 @@ fn write_edges(text: &mut String, edges: &[EdgeRow]) -> Result<(), AllocError>
 }
 
 fn write_edge(text: &mut String, edge: &EdgeRow) -> Result<(), AllocError>
-    ensures { OnOk result (string_bytes text.new ≡ string_bytes text.old ++ edge_row edge.now) }
+    ensures { Appends result text.old text.new (edge_row edge.now) }
 {
     let segment = edge.segment as u64;
     write_number_row(
@@ -110,7 +111,7 @@ fn write_edge(text: &mut String, edge: &EdgeRow) -> Result<(), AllocError>
 
 fn write_points(text: &mut String, points: &[Point], places: u32) -> Result<(), AllocError>
     requires { places ≤ 14 }
-    ensures { OnOk result (string_bytes text.new ≡ string_bytes text.old ++ counted (point_row places) points.now) }
+    ensures { Appends result text.old text.new (counted (point_row places) points.now) }
 {
     write_number_row(text, points.len() as u64, &[], &[])?;
     for point in points {
@@ -121,7 +122,7 @@ fn write_points(text: &mut String, points: &[Point], places: u32) -> Result<(), 
 
 fn write_point(text: &mut String, point: &Point, places: u32) -> Result<(), AllocError>
     requires { places ≤ 14 }
-    ensures { OnOk result (string_bytes text.new ≡ string_bytes text.old ++ point_row places point.now) }
+    ensures { Appends result text.old text.new (point_row places point.now) }
 {
     write_coordinate(text, &point.x, places)?;
     text.push_str(" ")?;
@@ -132,7 +133,7 @@ fn write_point(text: &mut String, point: &Point, places: u32) -> Result<(), Allo
 
 fn write_coordinate(text: &mut String, x: &i64, places: u32) -> Result<(), AllocError>
     requires { places ≤ 14 }
-    ensures { OnOk result (string_bytes text.new ≡ string_bytes text.old ++ coordinate places x.now) }
+    ensures { Appends result text.old text.new (coordinate places x.now) }
 {
     write_fixed(text, &last_decimals(x), places)?;
     Ok(())
