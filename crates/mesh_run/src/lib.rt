@@ -1,0 +1,54 @@
+//! What is a run of all domains, application by application?
+//!
+//! Point, line, rule and segment numbers begin at 1. A domain's points are numbered in the domain:
+//! those of its opening lines first, then its new points in order of making.
+#![tactic(auto)]
+
+mod application;
+mod domain_run;
+mod lists;
+mod pieces;
+
+pub use application::{Application, Applications};
+pub use domain_run::{DomainRun, DomainRuns};
+pub use lists::{Elements, FrontRows, OpeningLines, PointNumbers};
+pub use pieces::{Piece, Pieces};
+
+/// The options of a run.
+#[derive(Clone, Copy, Debug, PartialEq, Eq)]
+pub struct Options {
+    /// The greatest size, in grid units.
+    pub greatest: u64,
+    /// How fast sizes may grow with the distance, in thousandths.
+    pub grading: u32,
+    /// The last quality class that is tried.
+    pub last: u32,
+    /// The number of applications that each domain may make at most, where one was given.
+    pub limit: Option<u64>,
+}
+
+/// How a run ended.
+#[derive(Clone, Copy, Debug, PartialEq, Eq)]
+pub enum End {
+    /// No front line is left.
+    Done,
+    /// A front is left, and nothing applies to it.
+    Stuck,
+    /// A front is left, and the given number of applications was made.
+    Stopped,
+}
+
+/// The run of all domains.
+#[derive(Debug, Drop)]
+pub struct WholeRun {
+    /// The power of ten by which the geometry was moved to the grid.
+    pub shift: i32,
+    /// The options that the run was made with.
+    pub options: Options,
+    /// The pieces into which the segments were cut.
+    pub pieces: Pieces,
+    /// The domains' runs, by rising domain number.
+    pub domains: DomainRuns,
+    /// Stopped if a domain's end is, else Stuck if one is, else Done.
+    pub end: End,
+}

@@ -1,0 +1,82 @@
+ghost use Rattle.std.specs.Prelude.{◌≡◌, IfOk, pos};
+ghost use Rattle.vol_format.specs.Vol.{IsShift};
+
+use super::*;
+use grid_geom::Point;
+use std::alloc::{AllocError, Global};
+use std::test::Fail;
+
+fn points(alloc: Global, places: &[(i64, i64)]) -> Result<Points, AllocError> {
+    let mut points = Vec::new(alloc);
+    for place in places {
+        points.push(Point {
+            x: place.0,
+            y: place.1,
+        })?;
+    }
+    Ok(Points::from_vec(points))
+}
+
+fn triangle(alloc: Global) -> Result<Mesh, AllocError>
+    ensures { IfOk result (λ m. m.shift ≡ pos 4) }
+{
+    let mut edges = Vec::new(alloc);
+    for (segment, a, b) in [(1, 1, 2), (2, 2, 3), (3, 3, 1)] {
+        edges.push(EdgeRow {
+            bc: segment,
+            a,
+            b,
+            left: 1,
+            right: 0,
+            segment,
+        })?;
+    }
+    let corners = Element::from_vec(vec![in alloc; 1, 2, 3]?);
+    Ok(Mesh {
+        shift: 4,
+        points: points(alloc, &[(0, 0), (640000, 0), (0, 640000)])?,
+        edges: EdgeRows::from_vec(edges),
+        elements: MeshElements::from_vec(vec![in alloc; MeshElement { domain: 1, corners }]?),
+    })
+}
+
+// The text of a mesh of one point.
+fn point_text(alloc: Global, shift: i32, place: (i64, i64)) -> Result<Vec<u8>, AllocError>
+    requires { IsShift shift }
+{
+    let mesh = Mesh {
+        shift,
+        points: points(alloc, &[place])?,
+        edges: EdgeRows::from_vec(Vec::new(alloc)),
+        elements: MeshElements::from_vec(Vec::new(alloc)),
+    };
+    write_vol(alloc, &mesh)
+}
+
+#[test]
+fn writes_one_triangle(rt: HostRuntime) -> Result<(), Fail> {
+    let mesh = triangle(rt.alloc())?;
+    let written = "mesh3d\ndimension\n2\ngeomtype\n0\nsurfaceelements\n1\n1 1 0 0 3 1 2 3\n\
+        volumeelements\n0\nedgesegmentsgi2\n3\n1 0 1 2 0 0 1 0 1 0 1 0\n\
+        2 0 2 3 0 0 1 0 2 0 2 0\n3 0 3 1 0 0 1 0 3 0 3 0\npoints\n3\n\
+        0.0000000000 0.0000000000 0\n1.0000000000 0.0000000000 0\n\
+        0.0000000000 1.0000000000 0\nendmesh\n";
+    assert_eq!(rt;
+        write_vol(rt.alloc(), &mesh)?.as_slice(),
+        written.as_bytes()
+    );
+    Ok(())
+}
+
+#[test]
+fn writes_the_decimals_of_a_shift(rt: HostRuntime) -> Result<(), Fail> {
+    let coarse = point_text(rt.alloc(), -6, (-1048576, 64))?;
+    let whole = "mesh3d\ndimension\n2\ngeomtype\n0\nsurfaceelements\n0\nvolumeelements\n0\n\
+        edgesegmentsgi2\n0\npoints\n1\n-16384000000 1000000 0\nendmesh\n";
+    assert_eq!(rt; coarse.as_slice(), whole.as_bytes());
+    let fine = point_text(rt.alloc(), 8, (-1, 1048576))?;
+    let decimals = "mesh3d\ndimension\n2\ngeomtype\n0\nsurfaceelements\n0\nvolumeelements\n0\n\
+        edgesegmentsgi2\n0\npoints\n1\n-0.00000000015625 0.00016384000000 0\nendmesh\n";
+    assert_eq!(rt; fine.as_slice(), decimals.as_bytes());
+    Ok(())
+}
