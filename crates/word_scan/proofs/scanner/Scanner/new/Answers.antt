@@ -1,0 +1,5 @@
+use Rattle.word_scan.proofs.Laws.{reads_text}
+use Rattle.word_scan.proofs.scanner.Scanner.new.Goals as goal
+
+pub returns-clause-spaced : goal.returns-clause-spaced
+returns-clause-spaced c = λ spaced. rw spaced (reads_text c.args.text.now)

@@ -1,0 +1,5 @@
+pub mod Bytes
+pub mod Parts
+pub mod Scan
+pub mod Numerals
+pub mod Decimals
