@@ -14,12 +14,11 @@ use Rattle.grid_geom.specs.Line.{Line, side, whole, through}
 use Rattle.grid_geom.specs.Segment.{IsOnSegment}
 use Rattle.grid_geom.specs.Sides.{IsOnOpen, DoTangle, same_ends, swapped_ends, first_start, first_end, second_start, second_end, crossing}
 use Rattle.grid_geom.proofs.Ring.{E, var, num, ◌⊕◌, ◌⊖◌, ◌⊗◌, ring}
-use Rattle.grid_geom.proofs.Signs.{nn_mul, pos_mul, nn_np_mul, pos_mul_neg, neg_mul_neg, either, ordered, pos_factor, le_cancel}
-use Rattle.grid_geom.proofs.Lines.{through_is, orient_whole}
+use Rattle.grid_geom.proofs.Signs.{nn_mul, pos_mul, nn_np_mul, pos_mul_neg, neg_mul_neg, either, ordered, pos_factor, le_cancel, mean_le, mean_ge, zero_factor}
+use Rattle.grid_geom.proofs.Lines.{through_is, orient_whole, same_place}
 use Rattle.grid_geom.proofs.Meeting.{squared, squared_pos, on_back}
 use Rattle.grid_geom.proofs.Means.{side_mean}
 use Rattle.grid_geom.proofs.ApartOrCommon.{on_line}
-use Rattle.grid_geom.proofs.Tangle.{mean_le, mean_ge, no_factor', alike}
 
 -- how far v is along a-b
 abbrev pub along : Point → Point → Point → ℤ
@@ -112,8 +111,8 @@ open_by_place a b v d e h j = record {
 
 -- on the line at the place of an end
 is_a : (a b v : Point) → ¬ (a ≡ b) → orient a b v ≡ pos 0 → along a b v ≡ pos 0 → v ≡ a
-is_a a b v d e h = alike v a (equal (no_factor' (squared a b) (v.x -ℤ a.x) (from_a_x a b v e ∙ ap (λ (z : ℤ). (b.x -ℤ a.x) *ℤ z) h ∙ none (b.x -ℤ a.x)) (squared_pos a b d)))
-    (equal (no_factor' (squared a b) (v.y -ℤ a.y) (from_a_y a b v e ∙ ap (λ (z : ℤ). (b.y -ℤ a.y) *ℤ z) h ∙ none (b.y -ℤ a.y)) (squared_pos a b d)))
+is_a a b v d e h = same_place v a (equal (zero_factor (squared a b) (v.x -ℤ a.x) (from_a_x a b v e ∙ ap (λ (z : ℤ). (b.x -ℤ a.x) *ℤ z) h ∙ none (b.x -ℤ a.x)) (squared_pos a b d)))
+    (equal (zero_factor (squared a b) (v.y -ℤ a.y) (from_a_y a b v e ∙ ap (λ (z : ℤ). (b.y -ℤ a.y) *ℤ z) h ∙ none (b.y -ℤ a.y)) (squared_pos a b d)))
   where
     none : (m : ℤ) → m *ℤ pos 0 ≡ pos 0
     none m = omega (arith, ints)
@@ -122,8 +121,8 @@ is_a a b v d e h = alike v a (equal (no_factor' (squared a b) (v.x -ℤ a.x) (fr
     equal {x} {y} e = omega (arith, ints)
 
 is_b : (a b v : Point) → ¬ (a ≡ b) → orient a b v ≡ pos 0 → squared a b -ℤ along a b v ≡ pos 0 → v ≡ b
-is_b a b v d e h = alike v b (equal (no_factor' (squared a b) (b.x -ℤ v.x) (to_b_x a b v e ∙ ap (λ (z : ℤ). (b.x -ℤ a.x) *ℤ z) h ∙ none (b.x -ℤ a.x)) (squared_pos a b d)))
-    (equal (no_factor' (squared a b) (b.y -ℤ v.y) (to_b_y a b v e ∙ ap (λ (z : ℤ). (b.y -ℤ a.y) *ℤ z) h ∙ none (b.y -ℤ a.y)) (squared_pos a b d)))
+is_b a b v d e h = same_place v b (equal (zero_factor (squared a b) (b.x -ℤ v.x) (to_b_x a b v e ∙ ap (λ (z : ℤ). (b.x -ℤ a.x) *ℤ z) h ∙ none (b.x -ℤ a.x)) (squared_pos a b d)))
+    (equal (zero_factor (squared a b) (b.y -ℤ v.y) (to_b_y a b v e ∙ ap (λ (z : ℤ). (b.y -ℤ a.y) *ℤ z) h ∙ none (b.y -ℤ a.y)) (squared_pos a b d)))
   where
     none : (m : ℤ) → m *ℤ pos 0 ≡ pos 0
     none m = omega (arith, ints)
@@ -173,7 +172,7 @@ pub record AreOnLine (a b c d : Point) : Type 0 where
   pub d_straight : orient a b d ≡ pos 0
 
 a_open : (a b c d : Point) → AreOnLine a b c d → (along a b c <ℤ pos 0) × (pos 0 <ℤ along a b d) ⊎ (pos 0 <ℤ along a b c) × (along a b d <ℤ pos 0) → IsOnOpen a c d
-a_open a b c d h s = open_by_place c d a h.others_different (no_factor' (squared a b) (orient c d a) (a_flat a b c d h.c_straight h.d_straight) N) (first s) (second s)
+a_open a b c d h s = open_by_place c d a h.others_different (zero_factor (squared a b) (orient c d a) (a_flat a b c d h.c_straight h.d_straight) N) (first s) (second s)
   where
     N : pos 0 <ℤ squared a b
     N = squared_pos a b h.different
@@ -206,7 +205,7 @@ a_open a b c d h s = open_by_place c d a h.others_different (no_factor' (squared
 
 -- b between c and d; the numbers are N - g and e - N
 b_open : (a b c d : Point) → AreOnLine a b c d → (pos 0 <ℤ (squared a b -ℤ along a b c)) × (pos 0 <ℤ (along a b d -ℤ squared a b)) ⊎ ((squared a b -ℤ along a b c) <ℤ pos 0) × ((along a b d -ℤ squared a b) <ℤ pos 0) → IsOnOpen b c d
-b_open a b c d h s = open_by_place c d b h.others_different (no_factor' (squared a b) (orient c d b) (b_flat a b c d h.c_straight h.d_straight) N) (first s) (second s)
+b_open a b c d h s = open_by_place c d b h.others_different (zero_factor (squared a b) (orient c d b) (b_flat a b c d h.c_straight h.d_straight) N) (first s) (second s)
   where
     N : pos 0 <ℤ squared a b
     N = squared_pos a b h.different
@@ -363,7 +362,7 @@ not_before a b c d m n km h j f g = same_mean (side (place a b) m) (h.on.of_p *�
     (side_mean (place a b) m (whole c) (whole d) j.on ∙ ap (λ (z : ℤ). m.k *ℤ (j.on.of_p *ℤ z +ℤ j.on.of_q *ℤ side (place a b) (whole d))) (place_is a b c) ∙ ap (λ (z : ℤ). m.k *ℤ (j.on.of_p *ℤ along a b c +ℤ j.on.of_q *ℤ z)) (place_is a b d))
     km h.of_b (squared_pos a b n) (weights m a b h) (weights m c d j) j.on.p_weight j.on.q_weight f g
 
-inner_back : (m : RatPoint) (a b : Point) → IsInnerTo m a b → IsInnerTo m b a
+pub inner_back : (m : RatPoint) (a b : Point) → IsInnerTo m a b → IsInnerTo m b a
 inner_back m a b h = record { on = on_back m (whole a) (whole b) h.on; of_a = h.of_b; of_b = h.of_a }
 
 -- the place from the other end
@@ -397,7 +396,7 @@ inner_tangles a b c d m n n' km h j = elim (ends_of c d a b m km j h) [
   | inr z ↦ on_one_line a b c d m (record { different = n; others_different = n'; c_straight = z.0; d_straight = z.1 }) km h j
   | inl s ↦ elim (ends_of a b c d m km h j) [
     | inl r ↦ crossing (record { ends_first = s; ends_second = r })
-    | inr z ↦ absurd (none s (no_factor' (squared c d) (orient a b c) (a_flat c d a b z.0 z.1) (squared_pos c d n')))
+    | inr z ↦ absurd (none s (zero_factor (squared c d) (orient a b c) (a_flat c d a b z.0 z.1) (squared_pos c d n')))
   ]
 ]
   where

@@ -145,3 +145,7 @@ heights p q r a b = ring (p.x ∷ p.y ∷ p.k ∷ q.x ∷ q.y ∷ q.k ∷ a.x �
 
 pub det_back : (p q r : RatPoint) → det q p r ≡ pos 0 -ℤ det p q r
 det_back p q r = ring (p.x ∷ p.y ∷ p.k ∷ q.x ∷ q.y ∷ q.k ∷ r.x ∷ r.y ∷ r.k ∷ []) (detE Q P R) (num (pos 0) ⊖ detE P Q R) refl
+
+-- points with equal coordinates are equal
+pub same_place : (a c : Point) → a.x ≡ c.x → a.y ≡ c.y → a ≡ c
+same_place a c e f = ap (λ (z : ℤ). record { x = z; y = a.y }) e ∙ ap (λ (z : ℤ). record { x = c.x; y = z }) f

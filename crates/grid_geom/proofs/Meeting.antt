@@ -95,7 +95,7 @@ on_back m p q h = record {
     swapped : (x k a b c d : ℤ) → x *ℤ (a +ℤ b) ≡ k *ℤ (c +ℤ d) → x *ℤ (b +ℤ a) ≡ k *ℤ (d +ℤ c)
     swapped x k a b c d e = ap (λ (z : ℤ). x *ℤ z) (sum_turn b a) ∙ e ∙ ap (λ (z : ℤ). k *ℤ z) (sum_turn c d)
 
-meet_back : (p q c d : RatPoint) → DoMeet p q c d → DoMeet q p c d
+pub meet_back : (p q c d : RatPoint) → DoMeet p q c d → DoMeet q p c d
 meet_back p q c d h = record { at = h.at; rational = h.rational; on_first = on_back h.at p q h.on_first; on_second = h.on_second }
 
 pub mixed_pos : (r s k l : ℤ) → pos 0 ≤ℤ r → s ≤ℤ pos 0 → pos 0 <ℤ (r -ℤ s) → pos 0 <ℤ k → pos 0 <ℤ l → pos 0 <ℤ (r *ℤ l -ℤ s *ℤ k)
@@ -104,37 +104,31 @@ mixed_pos r s k l hr hs d hk hl = elim (either r (pos 0)) [
   | inl n ↦ omega (arith, ints, nn_mul r l hr (omega (arith, ints)), pos_mul_neg k s hk (omega (arith, ints)))
 ]
 
--- p on the closed left of c-d, q on its closed right, and not both on it
-lines_cross : (p q : RatPoint) (c d : Point) → pos 0 <ℤ p.k → pos 0 <ℤ q.k → pos 0 ≤ℤ orient_rat c d p → orient_rat c d q ≤ℤ pos 0 → pos 0 <ℤ (orient_rat c d p -ℤ orient_rat c d q) →
-    IsSeparated p q (whole c) (whole d) ⊎ DoMeet p q (whole c) (whole d)
-lines_cross p q c d kp kq hp hq some = elim (either (pos 0) (det p q (whole d))) [
-  | inr n ↦ inl (right_of_both p q c d kp kq (omega (arith, ints, ks)) n)
-  | inl n ↦ elim (either (det p q (whole c)) (pos 0)) [
-    | inr m ↦ inl (swap_first q p (whole c) (whole d) (right_of_both q p c d kq kp (omega (arith, ints, det_back p q (whole c))) (omega (arith, ints, ks, det_back p q (whole d)))))
-    | inl m ↦ inr (record {
-      at = record { x = orient_rat c d p *ℤ q.x -ℤ orient_rat c d q *ℤ p.x; y = orient_rat c d p *ℤ q.y -ℤ orient_rat c d q *ℤ p.y; k = orient_rat c d p *ℤ q.k -ℤ orient_rat c d q *ℤ p.k };
-      rational = there;
-      on_first = record {
-        of_p = pos 0 -ℤ orient_rat c d q;
-        of_q = orient_rat c d p;
-        p_weight = omega (arith, ints);
-        q_weight = hp;
-        weighted = omega (arith, ints);
-        mean_x = mixed (orient_rat c d p) (orient_rat c d q) p.x q.x p.k q.k;
-        mean_y = mixed (orient_rat c d p) (orient_rat c d q) p.y q.y p.k q.k;
-      };
-      on_second = record {
-        of_p = det p q (whole d);
-        of_q = pos 0 -ℤ det p q (whole c);
-        p_weight = n;
-        q_weight = omega (arith, ints);
-        weighted = omega (arith, ints, ks, there);
-        mean_x = weighed (orient_rat c d p *ℤ q.x -ℤ orient_rat c d q *ℤ p.x) (orient_rat c d p *ℤ q.k -ℤ orient_rat c d q *ℤ p.k) (det p q (whole d)) (det p q (whole c)) c.x d.x (crossing_x p q c d) (crossing_k p q c d);
-        mean_y = weighed (orient_rat c d p *ℤ q.y -ℤ orient_rat c d q *ℤ p.y) (orient_rat c d p *ℤ q.k -ℤ orient_rat c d q *ℤ p.k) (det p q (whole d)) (det p q (whole c)) c.y d.y (crossing_y p q c d) (crossing_k p q c d);
-      };
-    })
-  ]
-]
+-- p on the closed left of c-d and q on its closed right, not both on it; d on the closed left of p-q and c on its closed right: the lines cross in a point of both
+pub crossing_point : (p q : RatPoint) (c d : Point) → pos 0 <ℤ p.k → pos 0 <ℤ q.k → pos 0 ≤ℤ orient_rat c d p → orient_rat c d q ≤ℤ pos 0 → pos 0 <ℤ (orient_rat c d p -ℤ orient_rat c d q) →
+    pos 0 ≤ℤ det p q (whole d) → det p q (whole c) ≤ℤ pos 0 → DoMeet p q (whole c) (whole d)
+crossing_point p q c d kp kq hp hq some n m = record {
+  at = record { x = orient_rat c d p *ℤ q.x -ℤ orient_rat c d q *ℤ p.x; y = orient_rat c d p *ℤ q.y -ℤ orient_rat c d q *ℤ p.y; k = orient_rat c d p *ℤ q.k -ℤ orient_rat c d q *ℤ p.k };
+  rational = there;
+  on_first = record {
+    of_p = pos 0 -ℤ orient_rat c d q;
+    of_q = orient_rat c d p;
+    p_weight = omega (arith, ints);
+    q_weight = hp;
+    weighted = omega (arith, ints);
+    mean_x = mixed (orient_rat c d p) (orient_rat c d q) p.x q.x p.k q.k;
+    mean_y = mixed (orient_rat c d p) (orient_rat c d q) p.y q.y p.k q.k;
+  };
+  on_second = record {
+    of_p = det p q (whole d);
+    of_q = pos 0 -ℤ det p q (whole c);
+    p_weight = n;
+    q_weight = omega (arith, ints);
+    weighted = omega (arith, ints, ks, there);
+    mean_x = weighed (orient_rat c d p *ℤ q.x -ℤ orient_rat c d q *ℤ p.x) (orient_rat c d p *ℤ q.k -ℤ orient_rat c d q *ℤ p.k) (det p q (whole d)) (det p q (whole c)) c.x d.x (crossing_x p q c d) (crossing_k p q c d);
+    mean_y = weighed (orient_rat c d p *ℤ q.y -ℤ orient_rat c d q *ℤ p.y) (orient_rat c d p *ℤ q.k -ℤ orient_rat c d q *ℤ p.k) (det p q (whole d)) (det p q (whole c)) c.y d.y (crossing_y p q c d) (crossing_k p q c d);
+  };
+}
   where
     there : pos 0 <ℤ (orient_rat c d p *ℤ q.k -ℤ orient_rat c d q *ℤ p.k)
     there = mixed_pos (orient_rat c d p) (orient_rat c d q) p.k q.k hp hq some kp kq
@@ -149,6 +143,21 @@ lines_cross p q c d kp kq hp hq some = elim (either (pos 0) (det p q (whole d)))
     weighed m k e f a b h j = ap (λ (z : ℤ). z *ℤ (e *ℤ pos 1 +ℤ (pos 0 -ℤ f) *ℤ pos 1)) h
         ∙ ring (e ∷ f ∷ a ∷ b ∷ []) ((var 0 ⊗ var 2 ⊖ var 1 ⊗ var 3) ⊗ (var 0 ⊗ num (pos 1) ⊕ (num (pos 0) ⊖ var 1) ⊗ num (pos 1))) ((var 0 ⊖ var 1) ⊗ (var 0 ⊗ var 2 ⊕ (num (pos 0) ⊖ var 1) ⊗ var 3)) refl
         ∙ ap (λ (z : ℤ). z *ℤ (e *ℤ a +ℤ (pos 0 -ℤ f) *ℤ b)) (sym j)
+
+-- how far the one end is left of the other's line
+pub rising_ends : (p q : RatPoint) (c d : Point) → pos 0 <ℤ p.k → pos 0 <ℤ q.k → pos 0 ≤ℤ orient_rat c d p → orient_rat c d q ≤ℤ pos 0 → pos 0 <ℤ (orient_rat c d p -ℤ orient_rat c d q) → pos 0 <ℤ (det p q (whole d) -ℤ det p q (whole c))
+rising_ends p q c d kp kq hp hq some = subst (λ (z : ℤ). pos 0 <ℤ z) (crossing_k p q c d) (mixed_pos (orient_rat c d p) (orient_rat c d q) p.k q.k hp hq some kp kq)
+
+-- p on the closed left of c-d, q on its closed right, and not both on it
+lines_cross : (p q : RatPoint) (c d : Point) → pos 0 <ℤ p.k → pos 0 <ℤ q.k → pos 0 ≤ℤ orient_rat c d p → orient_rat c d q ≤ℤ pos 0 → pos 0 <ℤ (orient_rat c d p -ℤ orient_rat c d q) →
+    IsSeparated p q (whole c) (whole d) ⊎ DoMeet p q (whole c) (whole d)
+lines_cross p q c d kp kq hp hq some = elim (either (pos 0) (det p q (whole d))) [
+  | inr n ↦ inl (right_of_both p q c d kp kq (omega (arith, ints, rising_ends p q c d kp kq hp hq some)) n)
+  | inl n ↦ elim (either (det p q (whole c)) (pos 0)) [
+    | inr m ↦ inl (swap_first q p (whole c) (whole d) (right_of_both q p c d kq kp (omega (arith, ints, det_back p q (whole c))) (omega (arith, ints, rising_ends p q c d kp kq hp hq some, det_back p q (whole d)))))
+    | inl m ↦ inr (crossing_point p q c d kp kq hp hq some n m)
+  ]
+]
 
 -- ---- all on one line
 -- what is beyond d, seen from c
@@ -176,10 +185,10 @@ one_place p c d = p.x ∷ p.y ∷ p.k ∷ pos 0 ∷ pos 0 ∷ pos 0 ∷ c.x ∷ 
 pub both_beyond : (c d : Point) (p : RatPoint) → side (beyond c d) p +ℤ side (beyond d c) p ≡ pos 0 -ℤ squared c d *ℤ p.k
 both_beyond c d p = ring (one_place p c d) (beyondE C D P ⊕ beyondE D C P) (num (pos 0) ⊖ squaredE C D ⊗ P.k) refl
 
-place_x : (c d : Point) (p : RatPoint) → squared c d *ℤ (p.x -ℤ d.x *ℤ p.k) ≡ (d.x -ℤ c.x) *ℤ side (beyond c d) p -ℤ (d.y -ℤ c.y) *ℤ orient_rat c d p
+pub place_x : (c d : Point) (p : RatPoint) → squared c d *ℤ (p.x -ℤ d.x *ℤ p.k) ≡ (d.x -ℤ c.x) *ℤ side (beyond c d) p -ℤ (d.y -ℤ c.y) *ℤ orient_rat c d p
 place_x c d p = ring (one_place p c d) (squaredE C D ⊗ (P.x ⊖ D.x ⊗ P.k)) ((D.x ⊖ C.x) ⊗ beyondE C D P ⊖ (D.y ⊖ C.y) ⊗ orientE C D P) refl
 
-place_y : (c d : Point) (p : RatPoint) → squared c d *ℤ (p.y -ℤ d.y *ℤ p.k) ≡ (d.y -ℤ c.y) *ℤ side (beyond c d) p -ℤ (pos 0 -ℤ (d.x -ℤ c.x)) *ℤ orient_rat c d p
+pub place_y : (c d : Point) (p : RatPoint) → squared c d *ℤ (p.y -ℤ d.y *ℤ p.k) ≡ (d.y -ℤ c.y) *ℤ side (beyond c d) p -ℤ (pos 0 -ℤ (d.x -ℤ c.x)) *ℤ orient_rat c d p
 place_y c d p = ring (one_place p c d) (squaredE C D ⊗ (P.y ⊖ D.y ⊗ P.k)) ((D.y ⊖ C.y) ⊗ beyondE C D P ⊖ (num (pos 0) ⊖ (D.x ⊖ C.x)) ⊗ orientE C D P) refl
 
 pub nn_square : (z : ℤ) → pos 0 ≤ℤ (z *ℤ z)
@@ -289,13 +298,18 @@ all_beyond p q c d n hp hq = record { line = beyond c d; c_right = lowered (beyo
     lowered {z} {m} e h = omega (arith, ints)
 
 -- the same line the other way
-end_swap : (p q c d : RatPoint) → IsSeparated p q c d → IsSeparated p q d c
+pub end_swap : (p q c d : RatPoint) → IsSeparated p q c d → IsSeparated p q d c
 end_swap p q c d h = record { line = h.line; c_right = h.d_right; d_right = h.c_right; p_left = h.p_left; q_left = h.q_left }
 
-pub collinear : (p q : RatPoint) (c d : Point) → ¬ (c ≡ d) → pos 0 <ℤ p.k → pos 0 <ℤ q.k → orient_rat c d p ≡ pos 0 → orient_rat c d q ≡ pos 0 → IsSeparated p q (whole c) (whole d) ⊎ DoMeet p q (whole c) (whole d)
-collinear p q c d n kp kq ep eq = elim (either (side (beyond c d) p) (pos 0)) [
+-- both points are strictly beyond one end of a segment
+pub data AreBeyond (p q : RatPoint) (c d : Point) : Type 0 where
+  beyond_d : pos 0 <ℤ side (beyond c d) p → pos 0 <ℤ side (beyond c d) q → AreBeyond p q c d
+  beyond_c : pos 0 <ℤ side (beyond d c) p → pos 0 <ℤ side (beyond d c) q → AreBeyond p q c d
+
+pub beyond_or_meet : (p q : RatPoint) (c d : Point) → ¬ (c ≡ d) → pos 0 <ℤ p.k → pos 0 <ℤ q.k → orient_rat c d p ≡ pos 0 → orient_rat c d q ≡ pos 0 → AreBeyond p q c d ⊎ DoMeet p q (whole c) (whole d)
+beyond_or_meet p q c d n kp kq ep eq = elim (either (side (beyond c d) p) (pos 0)) [
   | inr hp ↦ elim (either (side (beyond c d) q) (pos 0)) [
-    | inr hq ↦ inl (all_beyond p q c d n hp hq)
+    | inr hq ↦ inl (beyond_d hp hq)
     | inl hq ↦ inr (record { at = whole d; rational = omega (arith, ints); on_first = end_between p q c d n ep eq hp hq; on_second = on_back (whole d) (whole d) (whole c) (first_end (whole d) (whole c)) })
   ]
   | inl hp ↦ elim (either (side (beyond c d) q) (pos 0)) [
@@ -303,7 +317,7 @@ collinear p q c d n kp kq ep eq = elim (either (side (beyond c d) p) (pos 0)) [
     | inl hq ↦ elim (either (side (beyond d c) p) (pos 0)) [
       | inl jp ↦ inr (record { at = p; rational = kp; on_first = first_end p q; on_second = within c d p n kp ep hp jp })
       | inr jp ↦ elim (either (side (beyond d c) q) (pos 0)) [
-        | inr jq ↦ inl (end_swap p q (whole d) (whole c) (all_beyond p q d c (λ e. n (sym e)) jp jq))
+        | inr jq ↦ inl (beyond_c jp jq)
         | inl jq ↦ inr (record { at = whole c; rational = omega (arith, ints); on_first = end_between p q d c (λ e. n (sym e)) (reverse ep (orient_back c d p)) (reverse eq (orient_back c d q)) jp jq; on_second = first_end (whole c) (whole d) })
       ]
     ]
@@ -313,7 +327,14 @@ collinear p q c d n kp kq ep eq = elim (either (side (beyond c d) p) (pos 0)) [
     reverse : {y z : ℤ} → z ≡ pos 0 → y ≡ pos 0 -ℤ z → y ≡ pos 0
     reverse {y} {z} e f = omega (arith, ints)
 
-both_left : (p q : RatPoint) (c d : Point) → pos 0 <ℤ orient_rat c d p → pos 0 <ℤ orient_rat c d q → IsSeparated p q (whole c) (whole d)
+beyond_separated : (p q : RatPoint) (c d : Point) → ¬ (c ≡ d) → AreBeyond p q c d → IsSeparated p q (whole c) (whole d)
+beyond_separated p q c d n (beyond_d hp hq) = all_beyond p q c d n hp hq
+beyond_separated p q c d n (beyond_c hp hq) = end_swap p q (whole d) (whole c) (all_beyond p q d c (λ e. n (sym e)) hp hq)
+
+collinear : (p q : RatPoint) (c d : Point) → ¬ (c ≡ d) → pos 0 <ℤ p.k → pos 0 <ℤ q.k → orient_rat c d p ≡ pos 0 → orient_rat c d q ≡ pos 0 → IsSeparated p q (whole c) (whole d) ⊎ DoMeet p q (whole c) (whole d)
+collinear p q c d n kp kq ep eq = elim (beyond_or_meet p q c d n kp kq ep eq) [ inl h ↦ inl (beyond_separated p q c d n h) | inr h ↦ inr h ]
+
+pub both_left : (p q : RatPoint) (c d : Point) → pos 0 <ℤ orient_rat c d p → pos 0 <ℤ orient_rat c d q → IsSeparated p q (whole c) (whole d)
 both_left p q c d hp hq = record { line = through c d; c_right = ends c d c (flat_start c d); d_right = ends c d d (flat_end c d); p_left = subst (λ (z : ℤ). pos 0 <ℤ z) (sym (through_is c d p)) hp; q_left = subst (λ (z : ℤ). pos 0 <ℤ z) (sym (through_is c d q)) hq }
   where
     ends : (c d e : Point) → side (through c d) (whole e) ≡ pos 0 → side (through c d) (whole e) ≤ℤ pos 0

@@ -78,3 +78,14 @@ le_cancel u w k h j = elim (either u w) [ inl n ↦ n | inr l ↦ absurd (omega 
 
 pub le_mul : (u w k : ℤ) → pos 0 <ℤ k → u ≤ℤ w → (u *ℤ k) ≤ℤ (w *ℤ k)
 le_mul u w k h j = omega (arith, ints, minus_mul w u k, nn_mul (w -ℤ u) k (omega (arith, ints)) (omega (arith, ints)))
+
+-- a number u whose multiple is a multiple w t has the sign of w, where t is not negative
+pub mean_le : (d t u w : ℤ) → d *ℤ u ≡ w *ℤ t → pos 0 <ℤ d → pos 0 ≤ℤ w → pos 0 ≤ℤ t → pos 0 ≤ℤ u
+mean_le d t u w e hd hw ht = elim (either (pos 0) u) [ inl n ↦ n | inr n ↦ absurd (omega (arith, ints, e, nn_mul w t hw ht, pos_mul_neg d u hd n)) ]
+
+pub mean_ge : (d t u w : ℤ) → d *ℤ u ≡ w *ℤ t → pos 0 <ℤ d → w ≤ℤ pos 0 → pos 0 ≤ℤ t → u ≤ℤ pos 0
+mean_ge d t u w e hd hw ht = elim (either u (pos 0)) [ inl n ↦ n | inr n ↦ absurd (omega (arith, ints, e, np_nn_mul w t hw ht, pos_mul d u hd n)) ]
+
+-- a factor of 0
+pub zero_factor : (m g : ℤ) → m *ℤ g ≡ pos 0 → pos 0 <ℤ m → g ≡ pos 0
+zero_factor m g e hm = elim (ordered g (pos 0)) [ inl n ↦ absurd (omega (arith, ints, e, pos_mul_neg m g hm n)) | inr r ↦ elim r [ inl n ↦ n | inr n ↦ absurd (omega (arith, ints, e, pos_mul m g hm n)) ] ]

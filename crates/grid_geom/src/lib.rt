@@ -7,15 +7,28 @@
 
 mod lists;
 mod orientation;
+mod rounding;
+mod segments;
 
 pub use lists::{Element, Points};
-pub use orientation::orient;
+pub use orientation::{on_grid, orient, orient_rat};
+pub use rounding::{isqrt, round_div};
+pub use segments::{on_open, segments_meet, tangle};
 
 /// The greatest absolute value of a grid point's coordinate.
 pub const GRID: i64 = 1_048_576;
 
 /// The greatest length that a size may have, in grid units: the grid's width.
 pub const LONGEST: u64 = 2_097_152;
+
+/// The greatest absolute value of a rational point's numerators where a call takes one: 2^70.
+pub const GREATEST_NUMERATOR: i128 = 1_180_591_620_717_411_303_424;
+
+/// The greatest denominator of a rational point where a call takes one: 2^50.
+pub const GREATEST_DENOMINATOR: i128 = 1_125_899_906_842_624;
+
+/// The greatest number of corners of which `double_area` sums: 2^20.
+pub const MOST_CORNERS: usize = 1_048_576;
 
 /// A point of the grid, in grid units.
 #[derive(Clone, Copy, Debug, PartialEq, Eq)]
