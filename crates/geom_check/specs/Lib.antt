@@ -1,0 +1,5 @@
+-- What this crate's words mean.
+-- Shift: numbers of a file moved to the grid. Placed: rows of a file moved to the grid. Refused: why a geometry is refused.
+pub mod Shift
+pub mod Placed
+pub mod Refused
