@@ -8,24 +8,26 @@ use Rattle.std.proofs.lemmas.Int.{ints}
 use Rattle.std.specs.Int.{int_max, int_min}
 use Rattle.std.specs.Ordering.{int_eq}
 use Rattle.grid_geom.specs.declared.Point.{Point}
+use Rattle.grid_geom.specs.declared.Edge.{Edge}
 use Rattle.grid_geom.specs.Plane.{orient}
+use Rattle.grid_geom.specs.Polygon.{is_outside}
 use Rattle.grid_geom.specs.Sides.{IsBetween, DoSpansMeet, AreBeside, both_left, both_right}
 use Rattle.grid_geom.proofs.Signs.{pos_mul_neg, nn_factor, neg_factor}
 use Rattle.grid_geom.proofs.Lines.{same_place}
 
-le_true : (a b : ℤ) → le_z a b ≡ true → a ≤ℤ b
+pub le_true : (a b : ℤ) → le_z a b ≡ true → a ≤ℤ b
 le_true a b e = grind (arith, ints)
 
-lt_true : (a b : ℤ) → lt_z a b ≡ true → a <ℤ b
+pub lt_true : (a b : ℤ) → lt_z a b ≡ true → a <ℤ b
 lt_true a b e = grind (arith, ints)
 
 lt_false : (a b : ℤ) → lt_z a b ≡ false → b ≤ℤ a
 lt_false a b e = grind (arith, ints)
 
-true_lt : (a b : ℤ) → a <ℤ b → lt_z a b ≡ true
+pub true_lt : (a b : ℤ) → a <ℤ b → lt_z a b ≡ true
 true_lt a b h = grind (arith, ints)
 
-true_le : (a b : ℤ) → a ≤ℤ b → le_z a b ≡ true
+pub true_le : (a b : ℤ) → a ≤ℤ b → le_z a b ≡ true
 true_le a b h = grind (arith, ints)
 
 pub clash : (b : Bool) → b ≡ false → b ≡ true → ⊥
@@ -112,3 +114,7 @@ opposite_right m n p q e f h = (
   where
     p_neg : p <ℤ pos 0
     p_neg = omega (arith, ints, e, lt_true m (pos 0) h)
+
+-- the test of one side
+pub outside_is : (a b : Point) (e : Edge) (m n : ℤ) → m ≡ orient e.a e.b a → n ≡ orient e.a e.b b → le_z m (pos 0) ≡ true → le_z n (pos 0) ≡ is_outside a b e
+outside_is a b e m n f g h = ap (λ (z : ℤ). le_z z (pos 0)) g ∙ ap (λ (r : Bool). r && le_z (orient e.a e.b b) (pos 0)) (sym (subst (λ (z : ℤ). le_z z (pos 0) ≡ true) f h))

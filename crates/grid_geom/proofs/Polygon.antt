@@ -8,6 +8,8 @@ use Rattle.std.proofs.lemmas.Int.{ints}
 use Rattle.std.specs.List.{AllByRecursion}
 use Rattle.grid_geom.specs.declared.Point.{Point}
 use Rattle.grid_geom.specs.declared.RatPoint.{RatPoint}
+use Rattle.grid_geom.specs.declared.Edge.{Edge}
+use Rattle.grid_geom.specs.Polygon.{way_round, sides}
 use Rattle.grid_geom.specs.Plane.{orient, orient_rat}
 use Rattle.grid_geom.specs.Line.{Line, side, whole, through}
 use Rattle.grid_geom.proofs.Ring.{var, num, ◌⊕◌, ◌⊖◌, ◌⊗◌, ring}
@@ -16,10 +18,14 @@ use Rattle.grid_geom.proofs.Lines.{through_is, orient_back}
 use Rattle.grid_geom.proofs.Triangle.{mean_side}
 use Rattle.grid_geom.proofs.Near.{mix, side_mix, bound, bound_pos, turn_all, IsWedge, IsDirected}
 
--- a polygon by its first corner o and the others; the sides from u on
+-- the lines of edges
+abbrev pub lines : List Edge → List Line
+lines [] = []
+lines (e ∷ es) = through e.a e.b ∷ lines es
+
+-- a polygon by its first corner o and the others; the lines of its sides from u on
 abbrev pub sides_from : Point → Point → List Point → List Line
-sides_from o u [] = through u o ∷ []
-sides_from o u (w ∷ ws) = through u w ∷ sides_from o w ws
+sides_from o u ws = lines (way_round o u ws)
 
 -- each side has the first corner strictly on its left
 abbrev pub IsFan : Point → Point → List Point → Type 0
@@ -53,8 +59,9 @@ fan_left l o u (w ∷ ws) q f ho hu hw h s = elim (either (orient_rat o w q) (po
 pub record IsPolygon (o u : Point) (ws : List Point) : Type 0 where
   pub fan : IsFan o u ws
 
+-- the lines of all its sides
 abbrev pub polygon_sides : Point → Point → List Point → List Line
-polygon_sides o u ws = through o u ∷ sides_from o u ws
+polygon_sides o u ws = lines (sides (o ∷ (u ∷ ws)))
 
 pub weakly_left : (l : Line) (o u : Point) (ws : List Point) (q : RatPoint) → IsPolygon o u ws → pos 0 ≤ℤ side l (whole o) → pos 0 ≤ℤ side l (whole u) → AreLeftOf l ws → AllByRecursion (λ s. pos 0 <ℤ side s q) (polygon_sides o u ws) → pos 0 ≤ℤ side l q
 weakly_left l o u ws q p ho hu hw s = fan_left l o u ws q p.fan ho hu hw (weak (subst (λ (z : ℤ). pos 0 <ℤ z) (through_is o u q) s.0)) s.1

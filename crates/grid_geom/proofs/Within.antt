@@ -38,6 +38,10 @@ within_mul m n a b ha hb = record {
     high : (m -ℤ a) *ℤ (n +ℤ b) +ℤ (m +ℤ a) *ℤ (n -ℤ b) ≡ pos 2 *ℤ (m *ℤ n) -ℤ pos 2 *ℤ (a *ℤ b)
     high = ring (m ∷ n ∷ a ∷ b ∷ []) ((var 0 ⊖ var 2) ⊗ (var 1 ⊕ var 3) ⊕ (var 0 ⊕ var 2) ⊗ (var 1 ⊖ var 3)) (num (pos 2) ⊗ (var 0 ⊗ var 1) ⊖ num (pos 2) ⊗ (var 2 ⊗ var 3)) refl
 
+-- a coordinate is within the bound of offsets
+pub wider : (z : ℤ) → IsWithin GRID z → IsWithin OFFSET z
+wider z h = record { least = omega (arith, ints); greatest = omega (arith, ints) }
+
 -- a product of two offsets fits 64 bits
 pub fits_product : (a b : ℤ) → IsWithin OFFSET a → IsWithin OFFSET b → SFits w64 (a *ℤ b)
 fits_product a b ha hb = let h : IsWithin PRODUCT (a *ℤ b) = within_mul OFFSET OFFSET a b ha hb in omega (arith, ints)

@@ -4,10 +4,10 @@ use mathlib.Core.List.{List, [], ◌∷◌}
 use Rattle.grid_geom.specs.declared.Edge.{Edge}
 
 -- twice the signed area of the triangle of an edge and the origin
-abbrev pub sweep : Edge → ℤ
-sweep e = e.a.x *ℤ e.b.y -ℤ e.a.y *ℤ e.b.x
+abbrev pub sweep_of : Edge → ℤ
+sweep_of e = e.a.x *ℤ e.b.y -ℤ e.a.y *ℤ e.b.x
 
 -- the sum over the list
 abbrev pub shoelace : List Edge → ℤ
 shoelace [] = pos 0
-shoelace (e ∷ es) = sweep e +ℤ shoelace es
+shoelace (e ∷ es) = sweep_of e +ℤ shoelace es

@@ -1,5 +1,6 @@
 -- Polygons by their corners, counterclockwise: the sides, strict convexity, the open polygon, and segments apart from it.
-use Rattle.std.specs.Prelude.{◌≢◌, ℕ, ◌+◌, ◌%◌, ◌<◌, ◌≤◌, List, [], ◌∷◌, length, slice_index_or, pos, ◌<ℤ◌, ◌≤ℤ◌}
+use lib.Signed.{lt_z, le_z}
+use Rattle.std.specs.Prelude.{Bool, ◌&&◌, ◌≢◌, ℕ, ◌+◌, ◌%◌, ◌<◌, ◌≤◌, List, [], ◌∷◌, length, slice_index_or, pos, ◌<ℤ◌, ◌≤ℤ◌}
 use Rattle.std.specs.List.{All, Any, AllByRecursion}
 use Rattle.grid_geom.specs.declared.Point.{Point}
 use Rattle.grid_geom.specs.declared.RatPoint.{RatPoint}
@@ -47,3 +48,12 @@ pub record DoesEnter (a b : Point) (corners : List Point) : Type 0 where
   pub rational : IsRational at
   pub on : IsOnClosed at a b
   pub inside : IsInPolygon at corners
+
+-- ---- tests of one side
+-- both ends of a-b are on the closed outer side of the side e
+abbrev pub is_outside : Point → Point → Edge → Bool
+is_outside a b e = le_z (orient e.a e.b a) (pos 0) && le_z (orient e.a e.b b) (pos 0)
+
+-- q is strictly left of the side e
+abbrev pub is_left : Point → Edge → Bool
+is_left q e = lt_z (pos 0) (orient e.a e.b q)

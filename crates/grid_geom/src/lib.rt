@@ -7,11 +7,13 @@
 
 mod lists;
 mod orientation;
+mod polygons;
 mod rounding;
 mod segments;
 
 pub use lists::{Element, Points};
 pub use orientation::{on_grid, orient, orient_rat};
+pub use polygons::{apart, double_area, in_open};
 pub use rounding::{isqrt, round_div};
 pub use segments::{on_open, segments_meet, tangle};
 

@@ -6,11 +6,11 @@ ghost use Rattle.grid_geom.specs.Calls.{orient_of, orient_rat_of};
 use super::{GREATEST_DENOMINATOR, GREATEST_NUMERATOR, GRID, Point, RatPoint};
 
 // Bounds of the numbers on the way, all from `GRID`: a difference of coordinates, a product of two, and a difference of products.
-const OFFSET: i64 = 2 * GRID;
+pub const OFFSET: i64 = 2 * GRID;
 
-const PRODUCT: i64 = OFFSET * OFFSET;
+pub const PRODUCT: i64 = OFFSET * OFFSET;
 
-const TURN: i64 = 2 * PRODUCT;
+pub const TURN: i64 = 2 * PRODUCT;
 
 // The same for a rational point with denominator k: k-fold differences, and their products with a difference of coordinates.
 const RAT_OFFSET: i128 = GREATEST_NUMERATOR + GRID as i128 * GREATEST_DENOMINATOR;
@@ -35,7 +35,7 @@ fn offset(from: i64, to: i64) -> i64
 }
 
 /// The product of two offsets.
-fn product(a: i64, b: i64) -> i64
+pub fn product(a: i64, b: i64) -> i64
     requires a_small { IsWithin OFFSET a }
     requires b_small { IsWithin OFFSET b }
     ensures value { result ≡ a *ℤ b }
