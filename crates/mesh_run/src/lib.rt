@@ -1,18 +1,34 @@
 //! What is a run of all domains, application by application?
 //!
-//! Point, line, rule and segment numbers begin at 1. A domain's points are numbered in the domain:
-//! those of its opening lines first, then its new points in order of making.
+//! 1. Point, line, rule and segment numbers begin at 1.
+//! 2. Mesh points are the ends of the pieces by first occurrence, then the new points domain by domain.
+//! 3. A domain's points are the mesh points that are ends of its lines, by rising mesh number, then
+//!    its new points in order of making.
+//! 4. A domain's opening lines are its pieces in their order, each with the domain on its left: as
+//!    edges they are the domain's boundary.
+//! 5. What a run without rules and its mesh are is given exactly; the definitions stand in specs/.
 #![tactic(auto)]
 
 mod application;
+mod boundary;
 mod domain_run;
+mod gate;
+pub mod laws;
 mod lists;
-mod pieces;
+mod mesh;
+mod numbering;
+mod opening;
+mod whole;
 
 pub use application::{Application, Applications};
+pub use boundary::uncut;
 pub use domain_run::{DomainRun, DomainRuns};
+pub use gate::{Gate, NoGate};
 pub use lists::{Elements, FrontRows, OpeningLines, PointNumbers};
-pub use pieces::{Piece, Pieces};
+pub use mesh::mesh_of;
+pub use size_field::{Piece, Pieces};
+pub use std::alloc::AllocError as OutOfMemory;
+pub use whole::open_all;
 
 /// The options of a run.
 #[derive(Clone, Copy, Debug, PartialEq, Eq)]
@@ -52,3 +68,6 @@ pub struct WholeRun {
     /// Stopped if a domain's end is, else Stuck if one is, else Done.
     pub end: End,
 }
+
+#[cfg(test)]
+mod tests;

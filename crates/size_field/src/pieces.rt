@@ -1,7 +1,7 @@
 // The pieces into which segments are cut.
 
 ghost use Rattle.std.specs.Prelude.{◌≡◌, List};
-ghost use Rattle.mesh_run.specs.declared.pieces.Piece.{Piece as SegmentPiece};
+ghost use Rattle.size_field.specs.declared.pieces.Piece.{Piece as SegmentPiece};
 
 use grid_geom::Point;
 use std::marker::Model;

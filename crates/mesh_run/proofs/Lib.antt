@@ -1,0 +1,7 @@
+pub mod Places
+pub mod Listed
+pub mod Opened
+pub mod Bounded
+pub mod Ranges
+pub mod Named
+pub mod DomainNumbers

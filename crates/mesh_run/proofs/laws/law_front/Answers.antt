@@ -1,0 +1,7 @@
+use Rattle.std.proofs.Common.{ap}
+use Rattle.grid_geom.specs.Winding.{wind}
+use Rattle.mesh_run.proofs.Bounded.{front_is_boundary}
+use Rattle.mesh_run.proofs.laws.law_front.Goals as goal
+
+pub returns : goal.returns
+returns c = record { edges = front_is_boundary; winds = λ d segments pieces q. ap (wind q) (front_is_boundary d segments pieces) }

@@ -1,0 +1,51 @@
+//! The laws of an opening, each as the contract of a function that does nothing.
+
+ghost use Rattle.std.specs.Prelude.{◌≡◌, ◌&&◌, ℕ, List, All, length, nat_eq, not, true};
+ghost use Rattle.std.specs.List.{list_any, IsDistinct};
+ghost use Rattle.grid_geom.specs.Bounds.{IsOnGrid};
+ghost use Rattle.grid_geom.specs.Closed.{same_point};
+ghost use Rattle.grid_geom.specs.declared.Point.{Point};
+ghost use Rattle.grid_geom.specs.declared.RatPoint.{RatPoint};
+ghost use Rattle.grid_geom.specs.Winding.{wind};
+ghost use Rattle.geom_check.specs.declared.kinds.Segment.{Segment};
+ghost use Rattle.geom_check.specs.Boundary.{boundary, point_at};
+ghost use Rattle.size_field.specs.declared.pieces.Piece.{Piece};
+ghost use Rattle.mesh_run.specs.Boundary.{piece_boundary, whole_pieces, IsNumberTo, IsPieceOnGrid};
+ghost use Rattle.mesh_run.specs.Mesh.{mesh_of_run, RowJoins};
+ghost use Rattle.mesh_run.specs.Numbering.{by_first_occurrence, is_among, number_in};
+ghost use Rattle.mesh_run.specs.Whole.{domain_numbers, sides_of, IsRising};
+ghost use Rattle.mesh_run.specs.declared.WholeRun.{WholeRun};
+ghost use Rattle.mesh_run.specs.Opening.{front_edges, mesh_points, unmeshed_run, FrontJoins};
+
+/// The front with which a domain begins is the domain's boundary, edge by edge, so it winds round each point as the boundary does.
+pub fn law_front()
+    ensures edges { (d : ℕ) (segments : List Segment) (pieces : List Piece) → front_edges (unmeshed_run d segments pieces) ≡ piece_boundary d segments pieces }
+    ensures winds { (d : ℕ) (segments : List Segment) (pieces : List Piece) (q : RatPoint) → wind q (front_edges (unmeshed_run d segments pieces)) ≡ wind q (piece_boundary d segments pieces) }
+{}
+
+/// Where no segment is cut, the pieces bound each domain as the segments do.
+pub fn law_uncut()
+    ensures pieces { (d : ℕ) (points : List Point) (segments : List Segment) → piece_boundary d segments (whole_pieces points segments) ≡ boundary points d segments }
+    ensures front { (d : ℕ) (points : List Point) (segments : List Segment) → front_edges (unmeshed_run d segments (whole_pieces points segments)) ≡ boundary points d segments }
+{}
+
+/// Points by first occurrence are different points, the same ones that were given, and each is the one with its number.
+pub fn law_numbering()
+    ensures different { (ps : List Point) → IsDistinct same_point (by_first_occurrence ps) }
+    ensures same { (ps : List Point) (p : Point) → is_among (by_first_occurrence ps) p ≡ is_among ps p }
+    ensures within { (ps : List Point) (p : Point) → is_among ps p ≡ true → IsNumberTo (length ps) (number_in ps p) }
+    ensures numbered { (ps : List Point) (p : Point) → is_among ps p ≡ true → point_at ps (number_in ps p) ≡ p }
+{}
+
+/// Each number that a front line of an opening names is one of the domain's points, and each that an edge row names one of the mesh's; and these are grid points where the pieces' ends are.
+pub fn law_ranges()
+    ensures front { (d : ℕ) (segments : List Segment) (pieces : List Piece) → All (FrontJoins (length (unmeshed_run d segments pieces).points)) (unmeshed_run d segments pieces).front }
+    ensures rows { (w : WholeRun) (segments : List Segment) → All (RowJoins (length (mesh_of_run w segments).points)) (mesh_of_run w segments).edges }
+    ensures on_grid { (pieces : List Piece) → All IsPieceOnGrid pieces → All IsOnGrid (mesh_points pieces) }
+{}
+
+/// The numbers of the domains rise, and are those above 0 that stand on a side of a segment.
+pub fn law_domains()
+    ensures rising { (segments : List Segment) → IsRising (domain_numbers segments) }
+    ensures named { (segments : List Segment) (d : ℕ) → list_any (nat_eq d) (domain_numbers segments) ≡ (not (nat_eq d 0) && list_any (nat_eq d) (sides_of segments)) }
+{}

@@ -1,0 +1,107 @@
+// The run of all domains, where no rule applies.
+ghost use Rattle.std.specs.Prelude.{◌≡◌, length, IfOk, OnOk, All};
+ghost use Rattle.std.specs.List.{list_any};
+ghost use Rattle.mesh_run.specs.Boundary.{IsPieceOf};
+ghost use Rattle.mesh_run.specs.Mesh.{NamesItsPoints};
+ghost use Rattle.mesh_run.specs.Whole.{domain_numbers, end_of_all, is_stopped, is_stuck, unmeshed_runs, unmeshed_whole, with_domain};
+
+use super::opening::{number_mesh, open_domain};
+use super::{DomainRun, DomainRuns, End, Options, WholeRun};
+use geom_check::Segment;
+use size_field::{Piece, Pieces};
+use std::alloc::{AllocError as OutOfMemory, Global};
+use std::collections::BTreeSet;
+
+/// Adds the number of a domain, unless it is 0, which stands for the outside.
+fn add_domain(numbers: &mut BTreeSet<u32>, number: u32) -> Result<(), OutOfMemory>
+    ensures { OnOk result (numbers.new.keys ≡ with_domain numbers.old.keys number) }
+{
+    if number != 0 {
+        numbers.insert(number)?;
+    }
+    Ok(())
+}
+
+/// The numbers above 0 on the sides of segments, rising.
+fn number_domains(alloc: Global, segments: &[Segment]) -> Result<Vec<u32>, OutOfMemory>
+    ensures { IfOk result (λ v. v.items ≡ domain_numbers segments.now) }
+{
+    let mut numbers = BTreeSet::new(alloc);
+    for segment in segments {
+        add_domain(&mut numbers, segment.left)?;
+        add_domain(&mut numbers, segment.right)?;
+    }
+    numbers.into_iter().collect(alloc)
+}
+
+/// Whether one of the runs was stopped.
+fn has_stopped(runs: &[DomainRun]) -> bool
+    ensures { result ≡ list_any (λ r. is_stopped r.end) runs.now }
+{
+    runs.iter().any(|run| matches!(run.end, End::Stopped))
+}
+
+/// Whether one of the runs is stuck.
+fn has_stuck(runs: &[DomainRun]) -> bool
+    ensures { result ≡ list_any (λ r. is_stuck r.end) runs.now }
+{
+    runs.iter().any(|run| matches!(run.end, End::Stuck))
+}
+
+/// Stopped if a domain's end is, else Stuck if one is, else Done.
+fn whole_end(runs: &[DomainRun]) -> End
+    ensures { result ≡ end_of_all runs.now }
+{
+    if has_stopped(runs) {
+        End::Stopped
+    } else if has_stuck(runs) {
+        End::Stuck
+    } else {
+        End::Done
+    }
+}
+
+/// The runs of the domains that the segments name, by rising number, where no rule applies.
+fn open_domains(
+    alloc: Global,
+    segments: &[Segment],
+    pieces: &[Piece],
+) -> Result<Vec<DomainRun>, OutOfMemory>
+    requires { All (IsPieceOf segments.now) pieces.now }
+    ensures { IfOk result (λ v. v.items ≡ unmeshed_runs segments.now pieces.now) }
+{
+    let mesh = number_mesh(alloc, pieces)?.points(alloc)?;
+    let numbers = number_domains(alloc, segments)?;
+    let mut runs = Vec::new(alloc);
+    for domain in &numbers {
+        runs.push(open_domain(alloc, *domain, segments, pieces, &mesh)?)?;
+    }
+    Ok(runs)
+}
+
+/// The whole run of a geometry where no rule is live: each domain's run is its opening state.
+///
+/// `shift` is the power of ten by which the geometry was moved to the grid. The condition is that
+/// each piece names one of the segments.
+#[tactic(auto, using(crate::proofs::Ranges::unmeshed_runs_name))]
+pub fn open_all(
+    alloc: Global,
+    shift: i32,
+    options: Options,
+    pieces: Pieces,
+    segments: &[Segment],
+) -> Result<WholeRun, OutOfMemory>
+    requires { All (IsPieceOf segments.now) pieces }
+    ensures run { IfOk result (λ w. w ≡ unmeshed_whole shift options pieces segments.now) }
+    ensures names { IfOk result (λ w. All NamesItsPoints w.domains) }
+{
+    let runs = open_domains(alloc, segments, pieces.as_slice())?;
+    let end = whole_end(&runs);
+    Ok(WholeRun {
+        shift,
+        options,
+        pieces,
+        domains: DomainRuns::from_vec(runs),
+        end,
+    })
+}
