@@ -79,8 +79,14 @@ fn roots_and_quotients(rt: HostRuntime) {
     assert_eq!(rt; isqrt(3), 1);
     assert_eq!(rt; isqrt(4), 2);
     // 2^100 - 1 and 2^100
-    assert_eq!(rt; isqrt(1_267_650_600_228_229_401_496_703_205_375), 1_125_899_906_842_623);
-    assert_eq!(rt; isqrt(1_267_650_600_228_229_401_496_703_205_376), 1_125_899_906_842_624);
+    assert_eq!(rt;
+        isqrt(1_267_650_600_228_229_401_496_703_205_375),
+        1_125_899_906_842_623
+    );
+    assert_eq!(rt;
+        isqrt(1_267_650_600_228_229_401_496_703_205_376),
+        1_125_899_906_842_624
+    );
     assert_eq!(rt; round_div(7, 2), 4);
     assert_eq!(rt; round_div(-7, 2), -3);
     assert_eq!(rt; round_div(-8, 3), -3);
@@ -108,7 +114,10 @@ fn point(n: u32) -> Point
     requires { n < 9 }
     ensures { IsOnGrid result }
 {
-    Point { x: i64::from(n % 3), y: i64::from(n / 3) }
+    Point {
+        x: i64::from(n % 3),
+        y: i64::from(n / 3),
+    }
 }
 
 // Two lines of this grid cross in a point of either segment that is at a whole number of 840ths of its length.
@@ -117,8 +126,12 @@ const PARTS: i64 = 840;
 // The place t/840 of the way from a to b, in 840ths of a grid unit.
 fn place(t: i64, a: Point, b: Point) -> Point {
     Point {
-        x: a.x.wrapping_mul(PARTS).wrapping_add(t.wrapping_mul(b.x.wrapping_sub(a.x))),
-        y: a.y.wrapping_mul(PARTS).wrapping_add(t.wrapping_mul(b.y.wrapping_sub(a.y))),
+        x: a.x
+            .wrapping_mul(PARTS)
+            .wrapping_add(t.wrapping_mul(b.x.wrapping_sub(a.x))),
+        y: a.y
+            .wrapping_mul(PARTS)
+            .wrapping_add(t.wrapping_mul(b.y.wrapping_sub(a.y))),
     }
 }
 
@@ -132,7 +145,11 @@ fn cross(p: Point, a: Point, b: Point) -> i64 {
 // Whether p, in 840ths, is on the closed segment c-d.
 fn is_on(p: Point, c: Point, d: Point) -> bool {
     let (low, high) = (place(0, c, d), place(PARTS, c, d));
-    cross(p, c, d) == 0 && low.x.min(high.x) <= p.x && p.x <= low.x.max(high.x) && low.y.min(high.y) <= p.y && p.y <= low.y.max(high.y)
+    cross(p, c, d) == 0
+        && low.x.min(high.x) <= p.x
+        && p.x <= low.x.max(high.x)
+        && low.y.min(high.y) <= p.y
+        && p.y <= low.y.max(high.y)
 }
 
 // How many places of a-b are on c-d, and whether each of them is an end of both.
@@ -156,10 +173,22 @@ fn segments_against_a_search(rt: HostRuntime) {
         for second in 0..81u32 {
             let (c, d) = (point(second % 9), point(second / 9));
             let (places, ends) = shared(a, b, c, d);
-            assert_eq!(rt; segments_meet(a, b, c, d), places > 0, "at {first} and {second}");
+            assert_eq!(rt;
+                segments_meet(a, b, c, d),
+                places > 0,
+                "at {first} and {second}"
+            );
             if a != b && c != d {
-                assert_eq!(rt; tangle(a, b, c, d), places > 1 || (places == 1 && !ends), "at {first} and {second}");
-                assert_eq!(rt; on_open(c, a, b), is_on(place(0, c, d), a, b) && c != a && c != b, "at {first} and {second}");
+                assert_eq!(rt;
+                    tangle(a, b, c, d),
+                    places > 1 || (places == 1 && !ends),
+                    "at {first} and {second}"
+                );
+                assert_eq!(rt;
+                    on_open(c, a, b),
+                    is_on(place(0, c, d), a, b) && c != a && c != b,
+                    "at {first} and {second}"
+                );
             }
         }
     }
@@ -198,11 +227,48 @@ fn check_polygon(rt: &impl Abort, corners: &[Point])
 
 #[test]
 fn polygons_against_a_search(rt: HostRuntime) {
-    check_polygon(&rt, &[Point { x: 0, y: 0 }, Point { x: 2, y: 1 }, Point { x: 1, y: 2 }]);
-    check_polygon(&rt, &[Point { x: 0, y: 0 }, Point { x: 2, y: 0 }, Point { x: 2, y: 2 }, Point { x: 0, y: 2 }]);
-    let six = [Point { x: 0, y: 0 }, Point { x: 1, y: 0 }, Point { x: 2, y: 1 }, Point { x: 2, y: 2 }, Point { x: 1, y: 2 }, Point { x: 0, y: 1 }];
+    check_polygon(
+        &rt,
+        &[
+            Point { x: 0, y: 0 },
+            Point { x: 2, y: 1 },
+            Point { x: 1, y: 2 },
+        ],
+    );
+    check_polygon(
+        &rt,
+        &[
+            Point { x: 0, y: 0 },
+            Point { x: 2, y: 0 },
+            Point { x: 2, y: 2 },
+            Point { x: 0, y: 2 },
+        ],
+    );
+    let six = [
+        Point { x: 0, y: 0 },
+        Point { x: 1, y: 0 },
+        Point { x: 2, y: 1 },
+        Point { x: 2, y: 2 },
+        Point { x: 1, y: 2 },
+        Point { x: 0, y: 1 },
+    ];
     check_polygon(&rt, &six);
     // a corner on a side, and the other way round
-    assert_eq!(rt; strictly_convex(&[Point { x: 0, y: 0 }, Point { x: 1, y: 0 }, Point { x: 2, y: 0 }, Point { x: 0, y: 2 }]), false);
-    assert_eq!(rt; strictly_convex(&[Point { x: 0, y: 0 }, Point { x: 1, y: 2 }, Point { x: 2, y: 1 }]), false);
+    assert_eq!(rt;
+        strictly_convex(&[
+            Point { x: 0, y: 0 },
+            Point { x: 1, y: 0 },
+            Point { x: 2, y: 0 },
+            Point { x: 0, y: 2 }
+        ]),
+        false
+    );
+    assert_eq!(rt;
+        strictly_convex(&[
+            Point { x: 0, y: 0 },
+            Point { x: 1, y: 2 },
+            Point { x: 2, y: 1 }
+        ]),
+        false
+    );
 }

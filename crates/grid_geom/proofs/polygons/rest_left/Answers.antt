@@ -1,9 +1,7 @@
-use mathlib.Core.Path.{◌≡◌, sym, ◌∙◌}
-use native.Mathlib.Omega.{arith}
 use borrow.Author.Count.{below_more}
 use mir.Val.{SFits}
 use mir.Syntax.{w64}
-use Rattle.std.proofs.lemmas.Int.{ints, to_z-of_z}
+use Rattle.std.proofs.lemmas.Int.{to_z-of_z}
 use Rattle.grid_geom.proofs.Booleans.{not_left, passed_left}
 use Rattle.grid_geom.proofs.polygons.rest_left.Goals as goal
 use Rattle.grid_geom.proofs.polygons.rest_left.Goals.{else-j-i-via-then-j-i+then-j-next+else-turn-le0, else-j-i-via-then-j-i+else-j-next, else-j-i-via-else-j-i}

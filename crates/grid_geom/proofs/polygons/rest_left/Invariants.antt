@@ -1,4 +1,4 @@
-use Rattle.std.proofs.Common.{◌≡◌, ◌≢◌, ℕ, ◌<◌, pos, ◌<ℤ◌}
+use Rattle.std.proofs.Common.{◌≢◌, ℕ, ◌<◌, pos, ◌<ℤ◌}
 use Rattle.grid_geom.specs.Plane.{orient}
 use Rattle.grid_geom.specs.Polygon.{corner_at, after}
 use Rattle.grid_geom.proofs.polygons.rest_left.Given as goal
