@@ -14,7 +14,6 @@ use super::{MOST_CORNERS, Point};
 fn rest_left(corners: &[Point], i: usize) -> bool
     requires corners_on { All IsOnGrid corners.now }
     requires within { i < length corners.now }
-    requires few { length corners.now ≤ MOST_CORNERS }
     ensures { IsTrue result ↔ IsLeftOfRest corners.now i }
 {
     let next = (i + 1) % corners.len();
@@ -29,8 +28,7 @@ fn rest_left(corners: &[Point], i: usize) -> bool
 /// Whether the corners are strictly convex: at least three, and each that is no end of a side is strictly left of it. So they go round their
 /// polygon counterclockwise.
 pub fn strictly_convex(corners: &[Point]) -> bool
-    requires corners_on { All IsOnGrid corners.now }
-    requires few { length corners.now ≤ MOST_CORNERS }
+    requires { All IsOnGrid corners.now }
     ensures { IsTrue result ↔ IsStrictlyConvex corners.now }
 {
     if corners.len() < 3 {

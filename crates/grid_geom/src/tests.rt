@@ -1,5 +1,5 @@
 // The calls at the bounds of what they take, and the predicates against a plain search for a common rational point on a small grid.
-ghost use Rattle.std.specs.Prelude.{◌<◌, length};
+ghost use Rattle.std.specs.Prelude.{◌<◌};
 ghost use Rattle.std.specs.List.{All};
 ghost use Rattle.grid_geom.specs.Bounds.{IsOnGrid};
 
@@ -211,8 +211,7 @@ fn enters(a: Point, b: Point, corners: &[Point]) -> bool {
 
 // Compares the polygon's calls with the search, for each segment of the grid.
 fn check_polygon(rt: &impl Abort, corners: &[Point])
-    requires on { All IsOnGrid corners.now }
-    requires few { length corners.now < 9 }
+    requires { All IsOnGrid corners.now }
 {
     assert!(rt; strictly_convex(corners));
     for ends in 0..81u32 {
