@@ -1,6 +1,8 @@
+-- A segment is apart from an open polygon, and then they have no point in common (`apart_has_none`), or they have one (`apart_or_common`).
+-- A polygon is a list of lines here. Stands on Common, Polygon and Means.
 use lib.IntN.{ℤ, pos, ◌-ℤ◌}
 use lib.Signed.{◌<ℤ◌, ◌≤ℤ◌}
-use mathlib.Core.Path.{◌≡◌, ◌∙◌, subst}
+use mathlib.Core.Path.{◌≡◌, subst}
 use mathlib.Core.List.{List, [], ◌∷◌}
 use mathlib.Core.Logic.{◌⊎◌, inl, inr}
 use native.Mathlib.Omega.{arith}
@@ -11,8 +13,8 @@ use Rattle.grid_geom.specs.declared.RatPoint.{RatPoint}
 use Rattle.grid_geom.specs.Line.{Line, side, whole, through}
 use Rattle.grid_geom.specs.Segment.{IsOnSegment}
 use Rattle.grid_geom.proofs.Signs.{either}
-use Rattle.grid_geom.proofs.Lines.{through_is, orient_back, orient_whole, flat_first, flat_second}
-use Rattle.grid_geom.proofs.Means.{mean_right}
+use Rattle.grid_geom.proofs.Lines.{through_is, orient_back}
+use Rattle.grid_geom.proofs.Means.{mean_right, on_line}
 use Rattle.grid_geom.proofs.Near.{IsDirected}
 use Rattle.grid_geom.proofs.Common.{IsCommon, Reached, common_point}
 use Rattle.grid_geom.proofs.Polygon.{IsPolygon, polygon_sides, AreLeftOf, polygon_left, sum_of, sum_rational, IsSomeLeft, sum_left}
@@ -54,16 +56,6 @@ not_left o u ws a b m p d km z h i = clash (polygon_left (through a b) o u ws m 
   where
     clash : {z : ℤ} → pos 0 <ℤ z → z ≤ℤ pos 0 → ⊥
     clash {z} h j = omega (arith, ints)
-
--- both ends of a segment are on its line
-pub on_line : (a b : Point) (m : RatPoint) → pos 0 <ℤ m.k → IsOnSegment m (whole a) (whole b) → (side (through a b) m ≤ℤ pos 0) × (side (through b a) m ≤ℤ pos 0)
-on_line a b m km on = (
-  mean_right (through a b) m (whole a) (whole b) on km (omega (arith, ints)) (omega (arith, ints)) (flat (through_is a b (whole a) ∙ orient_whole a b a ∙ flat_first a b)) (flat (through_is a b (whole b) ∙ orient_whole a b b ∙ flat_second a b)),
-  mean_right (through b a) m (whole a) (whole b) on km (omega (arith, ints)) (omega (arith, ints)) (flat (through_is b a (whole a) ∙ orient_whole b a a ∙ flat_second b a)) (flat (through_is b a (whole b) ∙ orient_whole b a b ∙ flat_first b a)),
-)
-  where
-    flat : {z : ℤ} → z ≡ pos 0 → z ≤ℤ pos 0
-    flat {z} e = omega (arith, ints)
 
 pub apart_has_none : (o u : Point) (ws : List Point) (a b : Point) (m : RatPoint) → IsPolygon o u ws → IsDirected (through a b) → IsDirected (through b a) → IsApartSegment o u ws a b → pos 0 <ℤ m.k → IsOnSegment m (whole a) (whole b) → IsInside (polygon_sides o u ws) m → ⊥
 apart_has_none o u ws a b m p d d' (beyond h) km on i = not_beyond (polygon_sides o u ws) a b m km on h i

@@ -18,6 +18,9 @@ use Rattle.grid_geom.proofs.Lines.{same_place}
 pub le_true : (a b : ℤ) → le_z a b ≡ true → a ≤ℤ b
 le_true a b e = grind (arith, ints)
 
+le_false : (a b : ℤ) → le_z a b ≡ false → b <ℤ a
+le_false a b e = grind (arith, ints)
+
 pub lt_true : (a b : ℤ) → lt_z a b ≡ true → a <ℤ b
 lt_true a b e = grind (arith, ints)
 
@@ -118,3 +121,10 @@ opposite_right m n p q e f h = (
 -- the test of one side
 pub outside_is : (a b : Point) (e : Edge) (m n : ℤ) → m ≡ orient e.a e.b a → n ≡ orient e.a e.b b → le_z m (pos 0) ≡ true → le_z n (pos 0) ≡ is_outside a b e
 outside_is a b e m n f g h = ap (λ (z : ℤ). le_z z (pos 0)) g ∙ ap (λ (r : Bool). r && le_z (orient e.a e.b b) (pos 0)) (sym (subst (λ (z : ℤ). le_z z (pos 0) ≡ true) f h))
+
+-- the test of a corner at a side
+pub not_left : (m : ℤ) {o : ℤ} → le_z m (pos 0) ≡ true → m ≡ o → pos 0 <ℤ o → ⊥
+not_left m {o} h e p = omega (arith, ints, e, le_true m (pos 0) h)
+
+pub passed_left : (m : ℤ) {o : ℤ} → le_z m (pos 0) ≡ false → m ≡ o → pos 0 <ℤ o
+passed_left m {o} h e = omega (arith, ints, e, le_false m (pos 0) h)

@@ -1,3 +1,5 @@
+-- A segment whose line has points of a polygon on both sides, and that is not wholly beyond one side, has a point in the open polygon
+-- (`common_point`). A polygon is a list of lines here. Stands on Meeting.
 use lib.IntN.{ℤ, pos, ◌+ℤ◌, ◌-ℤ◌, ◌*ℤ◌}
 use lib.Signed.{◌<ℤ◌, ◌≤ℤ◌}
 use mathlib.Core.Path.{◌≡◌, refl, sym, ap, ◌∙◌}

@@ -79,7 +79,7 @@ corner_left corners v i j hi hj = elim (same_number i j) [
   | inl e ↦ level (ap (λ (k : ℕ). orient (corner_at corners i) (corner_at corners (after corners i)) (corner_at corners k)) e ∙ flat_first (corner_at corners i) (corner_at corners (after corners i)))
   | inr n ↦ elim (same_number (after corners i) j) [
     | inl e ↦ level (ap (λ (k : ℕ). orient (corner_at corners i) (corner_at corners (after corners i)) (corner_at corners k)) e ∙ flat_second (corner_at corners i) (corner_at corners (after corners i)))
-    | inr m ↦ weak (v.left i j hi hj n m)
+    | inr m ↦ weak (v.left i hi j hj n m)
   ]
 ]
   where
@@ -112,9 +112,9 @@ first_left l o [] h = h
 first_left l o (w ∷ ws) h = inr (first_left l o ws h)
 
 side_some_left : (o u w : Point) (ws : List Point) → IsStrictlyConvex (o ∷ (u ∷ (w ∷ ws))) → (i : ℕ) → i < length (o ∷ (u ∷ (w ∷ ws))) → IsSomeLeft (through (corner_at (o ∷ (u ∷ (w ∷ ws))) i) (corner_at (o ∷ (u ∷ (w ∷ ws))) (after (o ∷ (u ∷ (w ∷ ws))) i))) o (u ∷ (w ∷ ws))
-side_some_left o u w ws v zero hi = inr (inl (at_more (at_side o (corner_at (o ∷ (u ∷ (w ∷ ws))) (after (o ∷ (u ∷ (w ∷ ws))) 0)) w) (v.left 0 2 hi (omega arith) (λ e. omega (arith, e)) (λ e. omega (arith, e, after_other (o ∷ (u ∷ (w ∷ ws))) 0 (omega arith))))))
-side_some_left o u w ws v (suc zero) hi = inr (inr (first_left (through u (corner_at (o ∷ (u ∷ (w ∷ ws))) (after (o ∷ (u ∷ (w ∷ ws))) 1))) o ws (at_more (at_side u (corner_at (o ∷ (u ∷ (w ∷ ws))) (after (o ∷ (u ∷ (w ∷ ws))) 1)) o) (v.left 1 0 hi (omega arith) (λ e. omega (arith, e)) (λ e. omega (arith, e, after_other (o ∷ (u ∷ (w ∷ ws))) 1 (omega arith)))))))
-side_some_left o u w ws v (suc (suc i)) hi = inl (at_more (at_side (corner_at (w ∷ ws) i) (corner_at (o ∷ (u ∷ (w ∷ ws))) (after (o ∷ (u ∷ (w ∷ ws))) (suc (suc i)))) u) (v.left (suc (suc i)) 1 hi (omega arith) (λ e. omega (arith, e)) (not_second (o ∷ (u ∷ (w ∷ ws))) (suc (suc i)) (omega arith) hi)))
+side_some_left o u w ws v zero hi = inr (inl (at_more (at_side o (corner_at (o ∷ (u ∷ (w ∷ ws))) (after (o ∷ (u ∷ (w ∷ ws))) 0)) w) (v.left 0 hi 2 (omega arith) (λ e. omega (arith, e)) (λ e. omega (arith, e, after_other (o ∷ (u ∷ (w ∷ ws))) 0 (omega arith))))))
+side_some_left o u w ws v (suc zero) hi = inr (inr (first_left (through u (corner_at (o ∷ (u ∷ (w ∷ ws))) (after (o ∷ (u ∷ (w ∷ ws))) 1))) o ws (at_more (at_side u (corner_at (o ∷ (u ∷ (w ∷ ws))) (after (o ∷ (u ∷ (w ∷ ws))) 1)) o) (v.left 1 hi 0 (omega arith) (λ e. omega (arith, e)) (λ e. omega (arith, e, after_other (o ∷ (u ∷ (w ∷ ws))) 1 (omega arith)))))))
+side_some_left o u w ws v (suc (suc i)) hi = inl (at_more (at_side (corner_at (w ∷ ws) i) (corner_at (o ∷ (u ∷ (w ∷ ws))) (after (o ∷ (u ∷ (w ∷ ws))) (suc (suc i)))) u) (v.left (suc (suc i)) hi 1 (omega arith) (λ e. omega (arith, e)) (not_second (o ∷ (u ∷ (w ∷ ws))) (suc (suc i)) (omega arith) hi)))
 
 -- ---- each side has the first corner on its left
 fan_walked : (corners : List Point) (o u : Point) (ws : List Point) (k : ℕ) → IsStrictlyConvex corners → o ≡ corner_at corners 0 → k + length (u ∷ ws) ≡ length corners → 1 ≤ k
@@ -122,7 +122,7 @@ fan_walked : (corners : List Point) (o u : Point) (ws : List Point) (k : ℕ) �
 fan_walked corners o u [] k v e n p c = tt
 fan_walked corners o u (w ∷ ws) k v e n p c = (
   turned e (c 0 (omega arith) ∙ ap (corner_at corners) (omega arith)) (c 1 (omega arith) ∙ ap (corner_at corners) (sym (after_other corners k (omega (arith, n)))))
-      (v.left k 0 (omega (arith, n)) (omega (arith, n)) (λ f. omega (arith, f)) (λ f. omega (arith, f, after_other corners k (omega (arith, n))))),
+      (v.left k (omega (arith, n)) 0 (omega (arith, n)) (λ f. omega (arith, f)) (λ f. omega (arith, f, after_other corners k (omega (arith, n))))),
   fan_walked corners o w ws (k + 1) v e (omega (arith, n)) (omega (arith, p)) (λ j i. c (suc j) (omega (arith, i)) ∙ ap (corner_at corners) (omega arith)),
 )
   where
@@ -159,3 +159,20 @@ passed q (e ∷ es) h = ap (λ (b : Bool). b && list_all (is_left q) es) (true_l
 
 pub inside_test : (q : Point) (corners : List Point) (r : Bool) → r ≡ list_all (is_left q) (sides corners) → (r ≡ true → IsInPolygon (whole q) corners) × (IsInPolygon (whole q) corners → r ≡ true)
 inside_test q corners r e = (λ t. record { left = tested q (sides corners) (sym e ∙ t) }, λ h. e ∙ passed q (sides corners) h.left)
+
+-- ---- triangles
+pub triangle_convex : (a b c : Point) → pos 0 <ℤ orient a b c → IsStrictlyConvex (a ∷ (b ∷ (c ∷ [])))
+triangle_convex a b c h = record { enough = omega arith; left = corner }
+  where
+    corner : (i : ℕ) → i < 3 → (j : ℕ) → j < 3 → j ≢ i → j ≢ after (a ∷ (b ∷ (c ∷ []))) i → pos 0 <ℤ orient (corner_at (a ∷ (b ∷ (c ∷ []))) i) (corner_at (a ∷ (b ∷ (c ∷ []))) (after (a ∷ (b ∷ (c ∷ []))) i)) (corner_at (a ∷ (b ∷ (c ∷ []))) j)
+    corner zero hi zero hj n m = absurd (n refl)
+    corner zero hi (suc zero) hj n m = absurd (m refl)
+    corner zero hi (suc (suc zero)) hj n m = h
+    corner (suc zero) hi zero hj n m = subst (λ (z : ℤ). pos 0 <ℤ z) (turn a b c) h
+    corner (suc zero) hi (suc zero) hj n m = absurd (n refl)
+    corner (suc zero) hi (suc (suc zero)) hj n m = absurd (m refl)
+    corner (suc (suc zero)) hi zero hj n m = absurd (m refl)
+    corner (suc (suc zero)) hi (suc zero) hj n m = subst (λ (z : ℤ). pos 0 <ℤ z) (turn a b c ∙ turn b c a) h
+    corner (suc (suc zero)) hi (suc (suc zero)) hj n m = absurd (n refl)
+    corner i hi (suc (suc (suc j))) hj n m = absurd (omega (arith, hj))
+    corner (suc (suc (suc i))) hi j hj n m = absurd (omega (arith, hi))

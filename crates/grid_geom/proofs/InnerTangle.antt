@@ -1,3 +1,5 @@
+-- Two segments with a common inner point tangle (`inner_tangles`): they cross, or lie on one line, and then the places of the ends along it decide.
+-- The letters o, t and n at the head are `orient`, `along` and `squared` as polynomials, for `ring`. Stands on Meeting and Means.
 use Prim.Native.Nat.{ℕ}
 use lib.IntN.{ℤ, pos, ◌+ℤ◌, ◌-ℤ◌, ◌*ℤ◌}
 use lib.Signed.{◌<ℤ◌, ◌≤ℤ◌}
@@ -17,8 +19,7 @@ use Rattle.grid_geom.proofs.Ring.{E, var, num, ◌⊕◌, ◌⊖◌, ◌⊗◌, 
 use Rattle.grid_geom.proofs.Signs.{nn_mul, pos_mul, nn_np_mul, pos_mul_neg, neg_mul_neg, either, ordered, pos_factor, le_cancel, mean_le, mean_ge, zero_factor}
 use Rattle.grid_geom.proofs.Lines.{through_is, orient_whole, same_place}
 use Rattle.grid_geom.proofs.Meeting.{squared, squared_pos, on_back}
-use Rattle.grid_geom.proofs.Means.{side_mean}
-use Rattle.grid_geom.proofs.ApartOrCommon.{on_line}
+use Rattle.grid_geom.proofs.Means.{side_mean, on_line}
 
 -- how far v is along a-b
 abbrev pub along : Point → Point → Point → ℤ

@@ -1,9 +1,10 @@
-use lib.IntN.{ℤ, pos, ◌+ℤ◌, ◌*ℤ◌, neg_ℤ}
+-- The ring laws of whole numbers that the library does not have: associativity, distributivity, one.
+use lib.IntN.{ℤ, pos, ◌+ℤ◌, ◌*ℤ◌}
 use Prim.Native.Nat.{ℕ, ◌*◌}
 use mathlib.Core.Path.{◌≡◌, ap}
 use native.Mathlib.Omega.{arith}
 use Rattle.std.proofs.lemmas.Int.{ints}
-use borrow.Author.Differences.{up, down, sum_is_lem, product_is, neg_is}
+use borrow.Author.Differences.{up, down, sum_is_lem, product_is}
 
 pub mul_add : (a b c : ℤ) → (a +ℤ b) *ℤ c ≡ a *ℤ c +ℤ b *ℤ c
 mul_add a b c = omega (arith, ints, ap (λ (z : ℕ). z * up c) (sum_is_lem a b), ap (λ (z : ℕ). z * down c) (sum_is_lem a b))
@@ -24,9 +25,6 @@ mul_assoc a b c = omega (
 
 pub add_assoc : (a b c : ℤ) → (a +ℤ b) +ℤ c ≡ a +ℤ (b +ℤ c)
 add_assoc a b c = omega (arith, ints)
-
-pub neg_mul : (a b : ℤ) → neg_ℤ a *ℤ b ≡ neg_ℤ (a *ℤ b)
-neg_mul a b = omega (arith, ints, ap (λ (z : ℕ). z * up b) (neg_is a).0, ap (λ (z : ℕ). z * down b) (neg_is a).0, ap (λ (z : ℕ). z * up b) (neg_is a).1, ap (λ (z : ℕ). z * down b) (neg_is a).1)
 
 pub mul_comm : (a b : ℤ) → a *ℤ b ≡ b *ℤ a
 mul_comm a b = omega (arith, ints)

@@ -1,3 +1,6 @@
+-- Rational points as triples (x, y, k), lines as triples (a, b, c), and the identities between them. `det p q r` is the determinant of three
+-- points, `above p q` says how much higher q is than p, times both k. The identity from which the laws of winding numbers follow is `three`.
+-- The abbreviations in capitals are points as polynomials, for `ring`. Stands on Ring.
 use lib.IntN.{ℤ, pos, ◌+ℤ◌, ◌-ℤ◌, ◌*ℤ◌}
 use mathlib.Core.Path.{◌≡◌, refl, ap, ◌∙◌}
 use mathlib.Core.List.{[], ◌∷◌}
@@ -55,22 +58,6 @@ pub through_is : (c d : Point) (q : RatPoint) → side (through c d) q ≡ orien
 through_is c d q = ring (c.x ∷ c.y ∷ pos 0 ∷ d.x ∷ d.y ∷ pos 0 ∷ q.x ∷ q.y ∷ q.k ∷ [])
     ((var 1 ⊖ var 4) ⊗ var 6 ⊕ (var 3 ⊖ var 0) ⊗ var 7 ⊕ (var 0 ⊗ var 4 ⊖ var 1 ⊗ var 3) ⊗ var 8) (orientE P Q R) refl
 
--- with Plücker: four points
-abbrev S : PointE
-S = record { x = var 9; y = var 10; k = var 11 }
-
-pub four_x : (p q r s : RatPoint) → det q r s *ℤ p.x -ℤ det p r s *ℤ q.x +ℤ det p q s *ℤ r.x -ℤ det p q r *ℤ s.x ≡ pos 0
-four_x p q r s = ring (p.x ∷ p.y ∷ p.k ∷ q.x ∷ q.y ∷ q.k ∷ r.x ∷ r.y ∷ r.k ∷ s.x ∷ s.y ∷ s.k ∷ [])
-    (detE Q R S ⊗ P.x ⊖ detE P R S ⊗ Q.x ⊕ detE P Q S ⊗ R.x ⊖ detE P Q R ⊗ S.x) (num (pos 0)) refl
-
--- the sides of four points, at degree five
-abbrev sid : PointE → E
-sid p = var 12 ⊗ p.x ⊕ var 13 ⊗ p.y ⊕ var 14 ⊗ p.k
-
-pub four : (l : Line) (p q r s : RatPoint) → det q r s *ℤ side l p -ℤ det p r s *ℤ side l q +ℤ det p q s *ℤ side l r -ℤ det p q r *ℤ side l s ≡ pos 0
-four l p q r s = ring (p.x ∷ p.y ∷ p.k ∷ q.x ∷ q.y ∷ q.k ∷ r.x ∷ r.y ∷ r.k ∷ s.x ∷ s.y ∷ s.k ∷ l.a ∷ l.b ∷ l.c ∷ [])
-    (detE Q R S ⊗ sid P ⊖ detE P R S ⊗ sid Q ⊕ detE P Q S ⊗ sid R ⊖ detE P Q R ⊗ sid S) (num (pos 0)) refl
-
 -- heights of two points, by way of a grid point
 pub above_by : (p q : RatPoint) (v : Point) → above p q ≡ q.k *ℤ above p (whole v) +ℤ p.k *ℤ above (whole v) q
 above_by p q v = ring (p.x ∷ p.y ∷ p.k ∷ q.x ∷ q.y ∷ q.k ∷ v.x ∷ v.y ∷ []) (minus P Q) (Q.k ⊗ minus P V ⊕ P.k ⊗ minus V Q) refl
@@ -121,13 +108,6 @@ flat_second a b = ring (a.x ∷ a.y ∷ b.x ∷ b.y ∷ []) ((var 2 ⊖ var 0) �
 
 pub det_turn : (p q r : RatPoint) → det p q r ≡ det q r p
 det_turn p q r = ring (p.x ∷ p.y ∷ p.k ∷ q.x ∷ q.y ∷ q.k ∷ r.x ∷ r.y ∷ r.k ∷ []) (detE P Q R) (detE Q R P) refl
-
--- the horizontal line at the height of p
-abbrev pub level : RatPoint → Line
-level p = record { a = pos 0; b = p.k; c = pos 0 -ℤ p.y }
-
-pub level_is : (p q : RatPoint) → side (level p) q ≡ above p q
-level_is p q = ring (p.x ∷ p.y ∷ p.k ∷ q.x ∷ q.y ∷ q.k ∷ []) (num (pos 0) ⊗ Q.x ⊕ P.k ⊗ Q.y ⊕ (num (pos 0) ⊖ P.y) ⊗ Q.k) (minus P Q) refl
 
 -- two segments p-q and a-b, and the height of r
 abbrev H : PointE

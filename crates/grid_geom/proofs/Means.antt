@@ -1,3 +1,5 @@
+-- A point of a segment is where both its ends are (`mean_left`, `mean_right`), so segments with a line between them have no point in common
+-- (`separated_apart`), and a segment lies on its own line (`on_line`). Stands on Lines and Signs.
 use lib.IntN.{ℤ, pos, ◌+ℤ◌, ◌*ℤ◌}
 use lib.Signed.{◌<ℤ◌, ◌≤ℤ◌}
 use mathlib.Core.Path.{◌≡◌, refl, ap, ◌∙◌}
@@ -5,9 +7,11 @@ use mathlib.Core.List.{[], ◌∷◌}
 use mathlib.Core.Logic.{inl, inr}
 use native.Mathlib.Omega.{arith}
 use Rattle.std.proofs.lemmas.Int.{ints}
+use Rattle.grid_geom.specs.declared.Point.{Point}
 use Rattle.grid_geom.specs.declared.RatPoint.{RatPoint}
-use Rattle.grid_geom.specs.Line.{Line, side}
+use Rattle.grid_geom.specs.Line.{Line, side, whole, through}
 use Rattle.grid_geom.specs.Segment.{IsOnSegment, DoMeet, IsSeparated}
+use Rattle.grid_geom.proofs.Lines.{through_is, orient_whole, flat_first, flat_second}
 use Rattle.grid_geom.proofs.Ring.{var, ◌⊕◌, ◌⊗◌, ring}
 use Rattle.grid_geom.proofs.Signs.{nn_mul, pos_mul, nn_np_mul, either, pos_factor, le_cancel}
 
@@ -58,3 +62,13 @@ separated_apart p q c d kp kq kc kd h m = clash (mean_left h.line m.at p q m.on_
   where
     clash : {z : ℤ} → pos 0 <ℤ z → z ≤ℤ pos 0 → ⊥
     clash {z} h j = omega (arith, ints)
+
+-- both ends of a segment are on its line
+pub on_line : (a b : Point) (m : RatPoint) → pos 0 <ℤ m.k → IsOnSegment m (whole a) (whole b) → (side (through a b) m ≤ℤ pos 0) × (side (through b a) m ≤ℤ pos 0)
+on_line a b m km on = (
+  mean_right (through a b) m (whole a) (whole b) on km (omega (arith, ints)) (omega (arith, ints)) (flat (through_is a b (whole a) ∙ orient_whole a b a ∙ flat_first a b)) (flat (through_is a b (whole b) ∙ orient_whole a b b ∙ flat_second a b)),
+  mean_right (through b a) m (whole a) (whole b) on km (omega (arith, ints)) (omega (arith, ints)) (flat (through_is b a (whole a) ∙ orient_whole b a a ∙ flat_second b a)) (flat (through_is b a (whole b) ∙ orient_whole b a b ∙ flat_first b a)),
+)
+  where
+    flat : {z : ℤ} → z ≡ pos 0 → z ≤ℤ pos 0
+    flat {z} e = omega (arith, ints)

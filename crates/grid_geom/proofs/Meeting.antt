@@ -1,3 +1,5 @@
+-- Two segments, one of them between grid points, have a rational point in common or a line between them (`separate_or_meet`). The parts are of use
+-- alone: where the lines cross (`crossing_point`), and what is beyond an end of a segment (`beyond_or_meet`). Stands on Lines and Signs.
 use lib.IntN.{ℤ, pos, ◌+ℤ◌, ◌-ℤ◌, ◌*ℤ◌}
 use lib.Signed.{◌<ℤ◌, ◌≤ℤ◌}
 use mathlib.Core.Path.{◌≡◌, refl, sym, ap, ◌∙◌, subst}

@@ -1,3 +1,5 @@
+-- Near a point v there is a point from which the way to v meets none of finitely many lines but in v, with given lines on its right (`near`,
+-- `near_ahead`): a large multiple of v is added (`outweighs`), or the point is turned a little. Stands on Lines, Signs and Meeting.
 use lib.IntN.{ℤ, pos, ◌+ℤ◌, ◌-ℤ◌, ◌*ℤ◌}
 use lib.Signed.{◌<ℤ◌, ◌≤ℤ◌}
 use mathlib.Core.Path.{◌≡◌, refl, sym, subst}

@@ -1,3 +1,5 @@
+-- A rational point is on a closed segment by its box (`IsOnClosed`) exactly where it is a mean of the ends (`IsOnSegment`).
+-- Stands on Meeting and Means.
 use lib.IntN.{ℤ, pos, ◌+ℤ◌, ◌-ℤ◌, ◌*ℤ◌}
 use lib.Signed.{◌<ℤ◌, ◌≤ℤ◌}
 use mathlib.Core.Path.{◌≡◌, refl, sym, ◌∙◌, subst}
@@ -13,9 +15,9 @@ use Rattle.grid_geom.specs.Segment.{IsOnSegment}
 use Rattle.grid_geom.specs.Sides.{IsOnClosed}
 use Rattle.grid_geom.proofs.Ring.{var, num, ◌⊕◌, ◌⊖◌, ◌⊗◌, ring}
 use Rattle.grid_geom.proofs.Signs.{nn_mul, nn_np_mul, np_nn_mul, either, le_cancel}
+use Rattle.grid_geom.proofs.Means.{on_line}
 use Rattle.grid_geom.proofs.Lines.{through_is, orient_back}
 use Rattle.grid_geom.proofs.Meeting.{within, beyond}
-use Rattle.grid_geom.proofs.ApartOrCommon.{on_line}
 
 -- ---- by box, then by weights
 beyond_is : (c d : Point) (p : RatPoint) → side (beyond c d) p ≡ (d.x -ℤ c.x) *ℤ (p.x -ℤ d.x *ℤ p.k) +ℤ (d.y -ℤ c.y) *ℤ (p.y -ℤ d.y *ℤ p.k)

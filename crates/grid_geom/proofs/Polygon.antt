@@ -1,3 +1,5 @@
+-- Polygons of any number of corners: a line with all corners on its closed left has the open polygon on its open left (`polygon_left`), and the sum
+-- of the corners is in the open polygon (`sum_left`). A polygon is its first corner o, the next u, and the others. Stands on Triangle and Near.
 use lib.IntN.{ℤ, pos, ◌+ℤ◌, ◌-ℤ◌, ◌*ℤ◌}
 use lib.Signed.{◌<ℤ◌, ◌≤ℤ◌}
 use mathlib.Core.Path.{◌≡◌, refl, ◌∙◌, subst}

@@ -1,3 +1,5 @@
+-- Signs of products and of factors, cases of two numbers, cancelling a positive factor. Names of products by signs: `pos` above 0, `neg` below,
+-- `nn` not below 0, `np` not above. Stands on Ring.
 use lib.IntN.{ℤ, pos, negsuc, ◌-ℤ◌, ◌*ℤ◌}
 use lib.Signed.{◌<ℤ◌, ◌≤ℤ◌}
 use Prim.Native.Nat.{ℕ, ◌*◌, ◌≤◌}

@@ -1,6 +1,8 @@
+-- Two segments that pass one strip of rows cross if their order along the rows differs at two points (`swap_crosses`). How far one is right of the
+-- other is linear in the height (`gap_three`). Stands on Lines and Signs.
 use lib.IntN.{ℤ, pos, ◌+ℤ◌, ◌-ℤ◌, ◌*ℤ◌}
 use lib.Signed.{◌<ℤ◌, ◌≤ℤ◌}
-use mathlib.Core.Path.{◌≡◌, refl, sym, ap, ◌∙◌, subst}
+use mathlib.Core.Path.{◌≡◌, refl, ap, ◌∙◌}
 use mathlib.Core.List.{List, [], ◌∷◌}
 use mathlib.Core.Logic.{inl, inr}
 use native.Mathlib.Omega.{arith}
@@ -70,9 +72,6 @@ pub record IsSpanned (q : RatPoint) (a b : Point) : Type 0 where
   pub rational : pos 0 <ℤ q.k
   pub low : (a.y *ℤ q.k) ≤ℤ q.y
   pub high : q.y <ℤ (b.y *ℤ q.k)
-
-opposite : (s t m n : ℤ) → m ≡ s → n ≡ t → pos 0 <ℤ s → t <ℤ pos 0 → (m *ℤ n) <ℤ pos 0
-opposite s t m n e f hs ht = omega (arith, ints, subst (λ (z : ℤ). (z *ℤ n) <ℤ pos 0) (sym e) (subst (λ (z : ℤ). (s *ℤ z) <ℤ pos 0) (sym f) (pos_mul_neg s t hs ht)))
 
 gap_level : (a b c d : Point) (y k z l : ℤ) → gap a b c d y k *ℤ l -ℤ gap a b c d z l *ℤ k ≡ ((d.y -ℤ c.y) *ℤ (b.x -ℤ a.x) -ℤ (b.y -ℤ a.y) *ℤ (d.x -ℤ c.x)) *ℤ (y *ℤ l -ℤ z *ℤ k)
 gap_level a b c d y k z l = ring (a.x ∷ a.y ∷ b.x ∷ b.y ∷ c.x ∷ c.y ∷ d.x ∷ d.y ∷ y ∷ k ∷ z ∷ l ∷ [])

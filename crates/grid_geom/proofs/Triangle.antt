@@ -1,3 +1,5 @@
+-- A point and a triangle: the point as a mean of the corners, corners above and below it, points on a side, lines with all corners on one side,
+-- and the centre. Stands on Lines and Signs.
 use lib.IntN.{ℤ, pos, ◌+ℤ◌, ◌-ℤ◌, ◌*ℤ◌}
 use lib.Signed.{◌<ℤ◌, ◌≤ℤ◌}
 use mathlib.Core.Path.{◌≡◌, refl, ap, ◌∙◌, subst}

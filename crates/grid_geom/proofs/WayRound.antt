@@ -12,6 +12,7 @@ use Rattle.std.proofs.lemmas.Int.{ints, to_z-of_z}
 use mir.Val.{SFits, to_z, of_z}
 use mir.Syntax.{w64, w128}
 use Rattle.grid_geom.specs.declared.orientation.TheConstants.{TURN}
+use Rattle.grid_geom.specs.declared.TheConstants.{MOST_CORNERS}
 use Rattle.grid_geom.specs.Bounds.{IsWithin}
 use Rattle.grid_geom.specs.declared.Point.{Point}
 use Rattle.grid_geom.specs.declared.Edge.{Edge}
@@ -34,21 +35,21 @@ pub sum_ahead : (first from d : Point) (rest : List Point) (i : ℕ) → i < len
 sum_ahead first from d rest i h = at_drop_more (λ (ps : List Point). shoelace (way_round first from ps)) rest i d h
 
 -- the code's sum of the sweeps so far and one more
-pub stepped : (s t : ℤ) (i : ℕ) → i ≤ 1048576 → IsWithin (TURN *ℤ pos i) s → IsWithin TURN t → to_z w128 (of_z w128 (s +ℤ to_z w128 (of_z w128 (to_z w64 (of_z w64 t))))) ≡ s +ℤ t
+pub stepped : (s t : ℤ) (i : ℕ) → i ≤ MOST_CORNERS → IsWithin (TURN *ℤ pos i) s → IsWithin TURN t → to_z w128 (of_z w128 (s +ℤ to_z w128 (of_z w128 (to_z w64 (of_z w64 t))))) ≡ s +ℤ t
 stepped s t i h hs ht = let ft : SFits w64 t = omega (arith, ints) in let fw : SFits w128 t = omega (arith, ints) in let fs : SFits w128 (s +ℤ t) = omega (arith, ints) in simp to_z-of_z
 
 pub more_within : (s t : ℤ) (i : ℕ) → IsWithin (TURN *ℤ pos i) s → IsWithin TURN t → IsWithin (TURN *ℤ pos (i + 1)) (s +ℤ t)
 more_within s t i hs ht = record { least = omega (arith, ints); greatest = omega (arith, ints) }
 
 -- a position in the rest of the corners is below their number
-pub rest_below : (corners : List Point) (i : ℕ) → length corners ≤ 1048576 → i < length (take (length corners - 1) (drop 1 corners)) → i ≤ 1048576
+pub rest_below : (corners : List Point) (i : ℕ) → length corners ≤ MOST_CORNERS → i < length (take (length corners - 1) (drop 1 corners)) → i ≤ MOST_CORNERS
 rest_below corners i h j = omega (arith, simp (length-take, length-drop) at j)
 
 -- at the end the side back to the first corner is left
 pub last_ahead : (first from : Point) (rest : List Point) (i : ℕ) → length rest ≤ i → shoelace (way_round first from (drop i rest)) ≡ sweep_of (record { a = from; b = first }) +ℤ pos 0
 last_ahead first from rest i h = at_drop_all (λ (ps : List Point). shoelace (way_round first from ps)) rest i h
 
-pub rest_end : (corners : List Point) (i : ℕ) → length corners ≤ 1048576 → i ≤ length (take (length corners - 1) (drop 1 corners)) → i ≤ 1048576
+pub rest_end : (corners : List Point) (i : ℕ) → length corners ≤ MOST_CORNERS → i ≤ length (take (length corners - 1) (drop 1 corners)) → i ≤ MOST_CORNERS
 rest_end corners i h j = omega (arith, simp (length-take, length-drop) at j)
 
 pub swept_first : (s t r : ℤ) {v w : ℤ} → t ≡ v → w ≡ v +ℤ r → s +ℤ w ≡ s +ℤ (t +ℤ r)

@@ -4,6 +4,7 @@ use lib.Signed.{◌<ℤ◌, ◌≤ℤ◌}
 use Rattle.grid_geom.specs.declared.Point.{Point}
 use Rattle.grid_geom.specs.declared.RatPoint.{RatPoint}
 
+-- the line a x + b y + c = 0
 pub record Line : Type 0 where
   pub a : ℤ
   pub b : ℤ
@@ -13,12 +14,9 @@ pub record Line : Type 0 where
 abbrev pub side : Line → RatPoint → ℤ
 side l q = l.a *ℤ q.x +ℤ l.b *ℤ q.y +ℤ l.c *ℤ q.k
 
+-- the grid point as a rational point
 abbrev pub whole : Point → RatPoint
 whole p = record { x = p.x; y = p.y; k = pos 1 }
-
--- the value at a grid point
-abbrev pub side_at : Line → Point → ℤ
-side_at l p = l.a *ℤ p.x +ℤ l.b *ℤ p.y +ℤ l.c
 
 -- the line from c to d, whose left is the positive side
 abbrev pub through : Point → Point → Line

@@ -26,11 +26,15 @@ corner_at corners i = slice_index_or corners i (record { x = pos 0; y = pos 0 })
 abbrev pub after : List Point → ℕ → ℕ
 after corners i = (i + 1) % length corners
 
--- at least three corners, and each corner that is not an end of a side is strictly left of it
+-- each corner that is not an end of the side from the corner at i is strictly left of it
+abbrev pub IsLeftOfRest : List Point → ℕ → Type 0
+IsLeftOfRest corners i = (j : ℕ) → j < length corners → j ≢ i → j ≢ after corners i →
+    pos 0 <ℤ orient (corner_at corners i) (corner_at corners (after corners i)) (corner_at corners j)
+
+-- at least three corners, and each that is not an end of a side is strictly left of it
 pub record IsStrictlyConvex (corners : List Point) : Type 0 where
   pub enough : 3 ≤ length corners
-  pub left : (i j : ℕ) → i < length corners → j < length corners → j ≢ i → j ≢ after corners i →
-      pos 0 <ℤ orient (corner_at corners i) (corner_at corners (after corners i)) (corner_at corners j)
+  pub left : (i : ℕ) → i < length corners → IsLeftOfRest corners i
 
 -- q is in the open polygon: strictly left of each side
 pub record IsInPolygon (q : RatPoint) (corners : List Point) : Type 0 where

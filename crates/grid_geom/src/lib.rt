@@ -13,7 +13,7 @@ mod segments;
 
 pub use lists::{Element, Points};
 pub use orientation::{on_grid, orient, orient_rat};
-pub use polygons::{apart, double_area, in_open};
+pub use polygons::{apart, double_area, in_open, strictly_convex};
 pub use rounding::{isqrt, round_div};
 pub use segments::{on_open, segments_meet, tangle};
 
@@ -60,3 +60,6 @@ pub struct Edge {
     pub a: Point,
     pub b: Point,
 }
+
+#[cfg(test)]
+mod tests;

@@ -1,14 +1,46 @@
 // Segments and points beside polygons, which are given by their corners.
-ghost use Rattle.std.specs.Prelude.{◌≡◌, ◌≢◌, ◌↔◌, ◌⊎◌, ◌≤◌, ◌≤ℤ◌, pos, length, IsTrue, IsFalse};
+ghost use Rattle.std.specs.Prelude.{◌≡◌, ◌≢◌, ◌↔◌, ◌⊎◌, ◌<◌, ◌≤◌, ◌≤ℤ◌, pos, length, IsTrue, IsFalse};
 ghost use Rattle.std.specs.List.{All, list_any, list_all};
 ghost use Rattle.grid_geom.specs.Bounds.{IsOnGrid, IsWithin};
 ghost use Rattle.grid_geom.specs.Calls.{orient_of};
 ghost use Rattle.grid_geom.specs.Line.{whole};
-ghost use Rattle.grid_geom.specs.Polygon.{sides, is_outside, is_left, IsStrictlyConvex, IsInPolygon, IsApart, DoesEnter};
+ghost use Rattle.grid_geom.specs.Polygon.{sides, is_outside, is_left, IsLeftOfRest, IsStrictlyConvex, IsInPolygon, IsApart, DoesEnter};
 ghost use Rattle.grid_geom.specs.Area.{sweep_of, shoelace};
 
 use super::orientation::{TURN, product, turn};
 use super::{MOST_CORNERS, Point};
+
+/// Whether each corner that is no end of the side from the corner at `i` is strictly left of it.
+fn rest_left(corners: &[Point], i: usize) -> bool
+    requires corners_on { All IsOnGrid corners.now }
+    requires within { i < length corners.now }
+    ensures { IsTrue result ↔ IsLeftOfRest corners.now i }
+{
+    let next = (i + 1) % corners.len();
+    for j in 0..corners.len() {
+        if j != i && j != next && turn(corners[i], corners[next], corners[j]) <= 0 {
+            return false;
+        }
+    }
+    true
+}
+
+/// Whether the corners are strictly convex: at least three, and each that is no end of a side is strictly left of it. So they go round their
+/// polygon counterclockwise.
+pub fn strictly_convex(corners: &[Point]) -> bool
+    requires { All IsOnGrid corners.now }
+    ensures { IsTrue result ↔ IsStrictlyConvex corners.now }
+{
+    if corners.len() < 3 {
+        return false;
+    }
+    for i in 0..corners.len() {
+        if !rest_left(corners, i) {
+            return false;
+        }
+    }
+    true
+}
 
 /// Whether each corner is on the closed left of the line from a to b.
 fn all_left(a: Point, b: Point, corners: &[Point]) -> bool

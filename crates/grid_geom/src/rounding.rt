@@ -5,6 +5,8 @@ ghost use Rattle.grid_geom.specs.Bounds.{IsWithin};
 // The bounds of what the calls here take.
 const GREATEST_SQUARE: i128 = 1_267_650_600_228_229_401_496_703_205_376; // 2^100
 
+const GREATEST_ROOT: i128 = 1_125_899_906_842_624; // 2^50
+
 const GREATEST_DIVIDEND: i128 = 42_535_295_865_117_307_932_921_825_928_971_026_432; // 2^125
 
 const GREATEST_DIVISOR: i128 = 1_237_940_039_285_380_274_899_124_224; // 2^90
@@ -16,6 +18,7 @@ pub fn isqrt(n: i128) -> i128
     ensures least { (result *ℤ result) ≤ℤ n }
     ensures greatest { n <ℤ ((result +ℤ pos 1) *ℤ (result +ℤ pos 1)) }
     ensures not_negative { pos 0 ≤ℤ result }
+    ensures small { result ≤ℤ GREATEST_ROOT }
 {
     n.isqrt()
 }
