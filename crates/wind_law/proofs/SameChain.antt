@@ -1,0 +1,122 @@
+-- Equal chains: two lists in which each edge stands equally often more than its reverse have the same winding numbers, the same shoelace sums, and are closed together.
+-- Any function of edges that changes its sign with the direction has the same sum over both. Stands on Counting.
+use Prim.Native.Nat.{ℕ, ◌+◌}
+use lib.IntN.{ℤ, pos, ◌+ℤ◌, ◌-ℤ◌}
+use mathlib.Core.Path.{◌≡◌, refl, sym, ap, ◌∙◌}
+use mathlib.Core.Bool.{Bool, true, false, cond}
+use mathlib.Core.List.{List, [], ◌∷◌, ◌++◌}
+use native.Mathlib.Omega.{arith}
+use Rattle.std.proofs.lemmas.Int.{ints}
+use Rattle.grid_geom.specs.declared.Point.{Point}
+use Rattle.grid_geom.specs.declared.RatPoint.{RatPoint}
+use Rattle.grid_geom.specs.declared.Edge.{Edge}
+use Rattle.grid_geom.specs.Plane.{orient}
+use Rattle.grid_geom.specs.Area.{sweep, shoelace}
+use Rattle.grid_geom.specs.Polygon.{sides}
+use Rattle.grid_geom.specs.Winding.{and, cross, wind}
+use Rattle.grid_geom.specs.Closed.{same_point}
+use Rattle.grid_geom.proofs.Ring.{var, num, ◌⊕◌, ◌⊖◌, ◌⊗◌, ring}
+use Rattle.wind_law.specs.Chains.{edge, back, same_edge, times, IsSameChain}
+use Rattle.wind_law.proofs.Counting.{count, total, same_total}
+use Rattle.wind_law.proofs.ClosedSums.{edge_test}
+use Rattle.wind_law.proofs.HalfOpen.{cross_back}
+
+abbrev backs : List Edge → List Edge
+backs [] = []
+backs (e ∷ es) = back e ∷ backs es
+
+and_turn : (a b : Bool) → and a b ≡ and b a
+and_turn true true = refl
+and_turn true false = refl
+and_turn false true = refl
+and_turn false false = refl
+
+times_backs : (x : Edge) (es : List Edge) → times x (backs es) ≡ times (back x) es
+times_backs x [] = refl
+times_backs x (e ∷ es) = ap (λ (b : Bool). cond b 1 0 + times x (backs es)) (and_turn (same_point e.b x.a) (same_point e.a x.b)) ∙ ap (λ (n : ℕ). cond (same_edge e (back x)) 1 0 + n) (times_backs x es)
+
+times_append : (x : Edge) (es fs : List Edge) → times x (es ++ fs) ≡ times x es + times x fs
+times_append x [] fs = none (times x fs)
+  where
+    none : (n : ℕ) → n ≡ 0 + n
+    none n = omega arith
+times_append x (e ∷ es) fs = more (cond (same_edge e x) 1 0) (times x es) (times x fs) (times x (es ++ fs)) (times_append x es fs)
+  where
+    more : (a b c d : ℕ) → d ≡ b + c → a + d ≡ (a + b) + c
+    more a b c d e = omega arith
+
+count_times : (x : Edge) (es : List Edge) → count same_edge x es ≡ times x es
+count_times x [] = refl
+count_times x (e ∷ es) = ap (λ (n : ℕ). cond (same_edge e x) 1 0 + n) (count_times x es)
+
+-- a function that an edge's reverse gives the negative
+abbrev pub IsOdd : (Edge → ℤ) → Type 0
+IsOdd f = (e : Edge) → f (back e) ≡ pos 0 -ℤ f e
+
+total_append : {X : Type 0} (f : X → ℤ) (es fs : List X) → total f (es ++ fs) ≡ total f es +ℤ total f fs
+total_append f [] fs = none (total f fs)
+  where
+    none : (n : ℤ) → n ≡ pos 0 +ℤ n
+    none n = omega (arith, ints)
+total_append f (e ∷ es) fs = more (f e) (total f es) (total f fs) (total f (es ++ fs)) (total_append f es fs)
+  where
+    more : (a b c d : ℤ) → d ≡ b +ℤ c → a +ℤ d ≡ (a +ℤ b) +ℤ c
+    more a b c d e = omega (arith, ints)
+
+total_backs : (f : Edge → ℤ) → IsOdd f → (es : List Edge) → total f (backs es) ≡ pos 0 -ℤ total f es
+total_backs f odd [] = refl
+total_backs f odd (e ∷ es) = more (f e) (total f es) (f (back e)) (total f (backs es)) (odd e) (total_backs f odd es)
+  where
+    more : (a b c d : ℤ) → c ≡ pos 0 -ℤ a → d ≡ pos 0 -ℤ b → c +ℤ d ≡ pos 0 -ℤ (a +ℤ b)
+    more a b c d e h = omega (arith, ints)
+
+-- so any such function has the same sum over lists that are the same chain
+pub same_chain : (f : Edge → ℤ) → IsOdd f → (es fs : List Edge) → IsSameChain es fs → total f es ≡ total f fs
+same_chain f odd es fs h = halved (total f es) (total f fs) (total f (es ++ backs fs)) (total f (backs (es ++ backs fs))) (total_append f es (backs fs) ∙ ap (λ (z : ℤ). total f es +ℤ z) (total_backs f odd fs)) (total_backs f odd (es ++ backs fs))
+    (same_total same_edge edge_test f (es ++ backs fs) (backs (es ++ backs fs)) (λ x. count_times x (es ++ backs fs) ∙ times_append x es (backs fs) ∙ ap (λ (n : ℕ). times x es + n) (times_backs x fs) ∙ h.balanced x
+    ∙ sym (count_times x (backs (es ++ backs fs)) ∙ times_backs x (es ++ backs fs) ∙ times_append (back x) es (backs fs) ∙ ap (λ (n : ℕ). times (back x) es + n) (times_backs (back x) fs))))
+  where
+    halved : (a b c d : ℤ) → c ≡ a +ℤ (pos 0 -ℤ b) → d ≡ pos 0 -ℤ c → c ≡ d → a ≡ b
+    halved a b c d e h j = omega (arith, ints)
+
+-- ---- winding numbers
+wind_total : (q : RatPoint) (es : List Edge) → wind q es ≡ total (cross q) es
+wind_total q [] = refl
+wind_total q (e ∷ es) = ap (λ (z : ℤ). cross q e +ℤ z) (wind_total q es)
+
+-- chains that are the same have the same winding numbers
+pub same_wind : (q : RatPoint) (es fs : List Edge) → IsSameChain es fs → wind q es ≡ wind q fs
+same_wind q es fs h = wind_total q es ∙ same_chain (cross q) (λ e. cross_back q e.a e.b) es fs h ∙ sym (wind_total q fs)
+
+-- ---- doubled areas
+shoelace_total : (es : List Edge) → shoelace es ≡ total sweep es
+shoelace_total [] = refl
+shoelace_total (e ∷ es) = ap (λ (z : ℤ). sweep e +ℤ z) (shoelace_total es)
+
+sweep_back : (e : Edge) → sweep (back e) ≡ pos 0 -ℤ sweep e
+sweep_back e = ring (e.a.x ∷ e.a.y ∷ e.b.x ∷ e.b.y ∷ []) (var 2 ⊗ var 1 ⊖ var 3 ⊗ var 0) (num (pos 0) ⊖ (var 0 ⊗ var 3 ⊖ var 1 ⊗ var 2)) refl
+
+pub same_area : (es fs : List Edge) → IsSameChain es fs → shoelace es ≡ shoelace fs
+same_area es fs h = shoelace_total es ∙ same_chain sweep sweep_back es fs h ∙ sym (shoelace_total fs)
+
+pub area_append : (es fs : List Edge) → shoelace (es ++ fs) ≡ shoelace es +ℤ shoelace fs
+area_append es fs = shoelace_total (es ++ fs) ∙ total_append sweep es fs ∙ ap (λ (z : ℤ). z +ℤ total sweep fs) (sym (shoelace_total es)) ∙ ap (λ (z : ℤ). shoelace es +ℤ z) (sym (shoelace_total fs))
+
+pub area_back : (a b : Point) → shoelace (edge a b ∷ edge b a ∷ []) ≡ pos 0
+area_back a b = ends (sweep (edge a b)) (sweep (edge b a)) (sweep_back (edge a b))
+  where
+    ends : (c d : ℤ) → d ≡ pos 0 -ℤ c → c +ℤ (d +ℤ pos 0) ≡ pos 0
+    ends c d s = omega (arith, ints)
+
+pub area_triangle : (a b c : Point) → shoelace (sides (a ∷ b ∷ c ∷ [])) ≡ orient a b c
+area_triangle a b c = ring (a.x ∷ a.y ∷ b.x ∷ b.y ∷ c.x ∷ c.y ∷ [])
+    ((var 0 ⊗ var 3 ⊖ var 1 ⊗ var 2) ⊕ ((var 2 ⊗ var 5 ⊖ var 3 ⊗ var 4) ⊕ ((var 4 ⊗ var 1 ⊖ var 5 ⊗ var 0) ⊕ num (pos 0))))
+    ((var 2 ⊖ var 0) ⊗ (var 5 ⊖ var 1) ⊖ (var 3 ⊖ var 1) ⊗ (var 4 ⊖ var 0)) refl
+
+-- a cut at a point of the edge's line
+pub area_cut : (a b m : Point) → orient a b m ≡ pos 0 → shoelace (edge a m ∷ edge m b ∷ []) ≡ shoelace (edge a b ∷ [])
+area_cut a b m h = parts (sweep (edge a m)) (sweep (edge m b)) (sweep (edge a b)) (ring (a.x ∷ a.y ∷ b.x ∷ b.y ∷ m.x ∷ m.y ∷ [])
+    ((var 0 ⊗ var 3 ⊖ var 1 ⊗ var 2) ⊖ ((var 0 ⊗ var 5 ⊖ var 1 ⊗ var 4) ⊕ (var 4 ⊗ var 3 ⊖ var 5 ⊗ var 2))) ((var 2 ⊖ var 0) ⊗ (var 5 ⊖ var 1) ⊖ (var 3 ⊖ var 1) ⊗ (var 4 ⊖ var 0)) refl ∙ h)
+  where
+    parts : (c d e : ℤ) → e -ℤ (c +ℤ d) ≡ pos 0 → c +ℤ (d +ℤ pos 0) ≡ e +ℤ pos 0
+    parts c d e h = omega (arith, ints)

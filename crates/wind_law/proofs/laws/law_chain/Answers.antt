@@ -1,0 +1,5 @@
+use Rattle.wind_law.proofs.SameChain.{same_wind, same_area}
+use Rattle.wind_law.proofs.laws.law_chain.Goals as goal
+
+pub returns : goal.returns
+returns c = record { winding = same_wind; area = same_area }

@@ -1,0 +1,9 @@
+//! How often does a list of directed edges wind round a point, and what keeps that number the same?
+#![tactic(auto)]
+
+mod balance;
+pub mod laws;
+
+pub use balance::closed;
+pub use grid_geom::Edge;
+pub use std::alloc::AllocError as OutOfMemory;
