@@ -13,7 +13,7 @@
 -- SortedEnds: what `closed` computes.
 --
 -- For the crates above: what is near a point of an edge.
--- Overlap: two triangles on one side of an edge share a point.
+-- Overlap: two polygons with a side in common share a point.
 -- JumpNear: the jump close to a given point of an edge.
 pub mod HalfOpen
 pub mod Counting

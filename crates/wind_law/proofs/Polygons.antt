@@ -63,7 +63,7 @@ pub polygon_beyond : (c d : Point) (q : RatPoint) (o : Point) (ws : List Point) 
 polygon_beyond c d q o ws kq n all = wind_right_of c d q (sides (o ∷ ws)) kq (sides_closed (o ∷ ws)) n (ends_of_sides c d o o ws all.0 all.0 all.1)
 
 -- ---- the first three corners
-weak_end : (e : Edge) (c : Point) → IsEndOrLeft e c → pos 0 ≤ℤ orient e.a e.b c
+pub weak_end : (e : Edge) (c : Point) → IsEndOrLeft e c → pos 0 ≤ℤ orient e.a e.b c
 weak_end e c (inl h) = subst (λ (c : Point). pos 0 ≤ℤ orient e.a e.b c) (sym h) (level (flat_first e.a e.b))
   where
     level : {z : ℤ} → z ≡ pos 0 → pos 0 ≤ℤ z

@@ -14,7 +14,7 @@ use Rattle.grid_geom.specs.Plane.{orient}
 use Rattle.grid_geom.specs.Area.{sweep, shoelace}
 use Rattle.grid_geom.specs.Polygon.{sides}
 use Rattle.grid_geom.specs.Winding.{and, cross, wind}
-use Rattle.grid_geom.specs.Closed.{same_point}
+use Rattle.grid_geom.specs.Closed.{same_point, leaving, arriving, IsClosed}
 use Rattle.grid_geom.proofs.Ring.{var, num, ◌⊕◌, ◌⊖◌, ◌⊗◌, ring}
 use Rattle.wind_law.specs.Chains.{edge, back, same_edge, times, IsSameChain}
 use Rattle.wind_law.proofs.Counting.{count, total, same_total}
@@ -120,3 +120,27 @@ area_cut a b m h = parts (sweep (edge a m)) (sweep (edge m b)) (sweep (edge a b)
   where
     parts : (c d e : ℤ) → e -ℤ (c +ℤ d) ≡ pos 0 → c +ℤ (d +ℤ pos 0) ≡ e +ℤ pos 0
     parts c d e h = omega (arith, ints)
+
+-- ---- closedness
+-- an edge leaves w, less that it arrives there
+abbrev leaves : Point → Edge → ℤ
+leaves w e = pos (cond (same_point e.a w) 1 0) -ℤ pos (cond (same_point e.b w) 1 0)
+
+leaves_total : (w : Point) (es : List Edge) → total (leaves w) es ≡ pos (leaving w es) -ℤ pos (arriving w es)
+leaves_total w [] = refl
+leaves_total w (e ∷ es) = joined (cond (same_point e.a w) 1 0) (cond (same_point e.b w) 1 0) (leaving w es) (arriving w es) (total (leaves w) es) (leaves_total w es)
+  where
+    joined : (a b l r : ℕ) (t : ℤ) → t ≡ pos l -ℤ pos r → (pos a -ℤ pos b) +ℤ t ≡ pos (a + l) -ℤ pos (b + r)
+    joined a b l r t e = omega (arith, ints)
+
+leaves_back : (w : Point) → IsOdd (leaves w)
+leaves_back w e = turned (pos (cond (same_point e.b w) 1 0)) (pos (cond (same_point e.a w) 1 0))
+  where
+    turned : (x y : ℤ) → x -ℤ y ≡ pos 0 -ℤ (y -ℤ x)
+    turned x y = omega (arith, ints)
+
+pub same_closed : (es fs : List Edge) → IsSameChain es fs → IsClosed es → IsClosed fs
+same_closed es fs h c = record { balanced = λ w. balanced (leaving w es) (arriving w es) (leaving w fs) (arriving w fs) (total (leaves w) es) (total (leaves w) fs) (c.balanced w) (leaves_total w es) (leaves_total w fs) (same_chain (leaves w) (leaves_back w) es fs h) }
+  where
+    balanced : (l r m n : ℕ) (s t : ℤ) → l ≡ r → s ≡ pos l -ℤ pos r → t ≡ pos m -ℤ pos n → s ≡ t → m ≡ n
+    balanced l r m n s t e f g h = omega (arith, ints)

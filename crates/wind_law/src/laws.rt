@@ -69,10 +69,11 @@ pub fn law_inside()
         IsInPolygon p (t ∷ u ∷ w ∷ []) → wind p es ≡ pos 1 }
 {}
 
-/// Two lists in which each edge stands equally often more than its reverse have the same winding numbers and the same doubled area.
+/// Two lists in which each edge stands equally often more than its reverse have the same winding numbers and the same doubled area, and are closed together.
 pub fn law_chain()
     ensures winding { (q : RatPoint) (es fs : List Edge) → IsSameChain es fs → wind q es ≡ wind q fs }
     ensures area { (es fs : List Edge) → IsSameChain es fs → shoelace es ≡ shoelace fs }
+    ensures closed { (es fs : List Edge) → IsSameChain es fs → IsClosed es → IsClosed fs }
 {}
 
 /// Doubled areas add up along a list. An edge and its reverse add up to 0. An edge that is cut at a point of its line has the sum of its parts. A triangle has its orientation.
