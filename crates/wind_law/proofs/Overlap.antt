@@ -21,18 +21,12 @@ use Rattle.grid_geom.proofs.Lines.{through_is, orient_back, flat_first, flat_sec
 use Rattle.grid_geom.proofs.Near.{IsAhead, within, towards, IsNear, near_ahead}
 use Rattle.wind_law.specs.Chains.{edge}
 use Rattle.wind_law.specs.Centre.{centre}
+use Rattle.wind_law.specs.Near.{HaveCommonPoint}
 use Rattle.wind_law.proofs.Corners.{IsEndOrLeft, convex_from}
 use Rattle.wind_law.proofs.Polygons.{by_corners, weak_end}
 use Rattle.wind_law.proofs.EdgeLines.{lines, lines_directed, left_of_edges}
 use Rattle.wind_law.proofs.Inside.{centre_in_polygon, centre_rational}
 use Rattle.wind_law.proofs.NearPoint.{off_edges}
-
-pub record IsInBoth (cs ds : List Point) (es : List Edge) : Type 0 where
-  pub at : RatPoint
-  pub rational : IsRational at
-  pub in_first : IsInPolygon at cs
-  pub in_second : IsInPolygon at ds
-  pub off : IsOff at es
 
 -- ---- what holds of all corners holds of both ends of a side
 ends_all : (P : Point → Type 0) (first from : Point) (ws : List Point) → P first → P from → AllByRecursion P ws → AllByRecursion (λ e. P e.a × P e.b) (way_round first from ws)
@@ -106,8 +100,8 @@ second_all : (P : Line → Type 0) (ls ms : List Line) → AllByRecursion P (ls 
 second_all P [] ms h = h
 second_all P (l ∷ ls) ms h = second_all P ls ms h.1
 
-pub overlap : (e : Edge) (cs ds : List Point) (es : List Edge) → IsStrictlyConvex cs → IsStrictlyConvex ds → Contains (sides cs) e → Contains (sides ds) e → AllByRecursion IsEdge es → IsInBoth cs ds es
-overlap e cs ds es v w n m h = result (near_ahead (middle e) (centre cs) (lines (sides cs) ++ lines (sides ds)) (lines es) (omega (arith, ints)) (centre_rational cs v).positive
+pub overlap : (cs ds : List Point) (e : Edge) (es : List Edge) → IsStrictlyConvex cs → IsStrictlyConvex ds → Contains (sides cs) e → Contains (sides ds) e → AllByRecursion IsEdge es → HaveCommonPoint cs ds es
+overlap cs ds e es v w n m h = result (near_ahead (middle e) (centre cs) (lines (sides cs) ++ lines (sides ds)) (lines es) (omega (arith, ints)) (centre_rational cs v).positive
     (both_all (IsAhead (middle e) (centre cs)) (lines (sides cs)) (lines (sides ds)) (ahead_all e (centre cs) (centre cs) (sides cs) (sides cs) (centre_in_polygon cs v).left left left n (strict_sides cs v))
     (ahead_all e (centre ds) (centre cs) (sides ds) (sides ds) (centre_in_polygon ds w).left left_too left m (strict_sides ds w))) (lines_directed es h))
   where
@@ -117,7 +111,7 @@ overlap e cs ds es v w n m h = result (near_ahead (middle e) (centre cs) (lines 
     left_too : pos 0 <ℤ orient_rat e.a e.b (centre ds)
     left_too = named (λ s. pos 0 <ℤ orient_rat s.a s.b (centre ds)) (sides ds) e (centre_in_polygon ds w).left m
 
-    result : IsNear (middle e) (lines (sides cs) ++ lines (sides ds)) (lines es) → IsInBoth cs ds es
+    result : IsNear (middle e) (lines (sides cs) ++ lines (sides ds)) (lines es) → HaveCommonPoint cs ds es
     result r = record {
       at = r.at;
       rational = record { positive = r.rational };

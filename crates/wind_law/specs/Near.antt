@@ -1,4 +1,4 @@
--- Points near a given point v of a closed polygon.
+-- Points of open polygons: near a given point v of the closed one, and common to two.
 use lib.IntN.{pos, ◌*ℤ◌}
 use lib.Signed.{◌≤ℤ◌}
 use mathlib.Core.Path.{◌≡◌}
@@ -33,3 +33,11 @@ pub record HasPointNear (v : RatPoint) (corners : List Point) (es : List Edge) :
   pub inside : IsInPolygon at corners
   pub off : IsOff at es
   pub free : AllByRecursion (MeetsAtMostIn v at) es
+
+-- there is a rational point in both open polygons, off the edges
+pub record HaveCommonPoint (first second : List Point) (es : List Edge) : Type 0 where
+  pub at : RatPoint
+  pub rational : IsRational at
+  pub in_first : IsInPolygon at first
+  pub in_second : IsInPolygon at second
+  pub off : IsOff at es

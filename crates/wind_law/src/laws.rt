@@ -1,7 +1,7 @@
 //! The laws of winding numbers. Each is the contract of a function that does nothing, and holds of all points with whole coordinates, of any size, and of all rational points.
 
 ghost use Rattle.std.specs.Prelude.{◌≡◌, List, ◌++◌, ◌∷◌, [], pos, ◌+ℤ◌, ◌-ℤ◌, ◌<ℤ◌};
-ghost use Rattle.std.specs.List.{AllByRecursion};
+ghost use Rattle.std.specs.List.{AllByRecursion, Contains};
 ghost use Rattle.grid_geom.specs.declared.Point.{Point};
 ghost use Rattle.grid_geom.specs.declared.RatPoint.{RatPoint};
 ghost use Rattle.grid_geom.specs.declared.Edge.{Edge};
@@ -14,7 +14,7 @@ ghost use Rattle.grid_geom.specs.Closed.{IsClosed, IsEdge, IsOff};
 ghost use Rattle.wind_law.specs.Chains.{edge, times, IsSameChain};
 ghost use Rattle.wind_law.specs.Parting.{IsParted};
 ghost use Rattle.wind_law.specs.Centre.{centre};
-ghost use Rattle.wind_law.specs.Near.{IsInClosure, HasPointNear};
+ghost use Rattle.wind_law.specs.Near.{IsInClosure, HasPointNear, HaveCommonPoint};
 ghost use Rattle.wind_law.specs.Passing.{DoesPass, IsMissed};
 
 /// Winding numbers add up along a list. An edge and its reverse add up to 0. An edge that is cut at a point of its open segment has the sum of its parts.
@@ -45,6 +45,12 @@ pub fn law_polygon()
 pub fn law_near_point()
     ensures { (v : RatPoint) (corners : List Point) (es : List Edge) → IsRational v → IsStrictlyConvex corners → IsInClosure v corners →
         AllByRecursion IsEdge es → HasPointNear v corners es }
+{}
+
+/// Two strictly convex polygons with a side in the same direction have a common rational point, off all edges of a list.
+pub fn law_overlap()
+    ensures { (first second : List Point) (e : Edge) (es : List Edge) → IsStrictlyConvex first → IsStrictlyConvex second →
+        Contains (sides first) e → Contains (sides second) e → AllByRecursion IsEdge es → HaveCommonPoint first second es }
 {}
 
 /// Let p be strictly left and q strictly right of a-b, and let the segment p-q meet the open segment a-b, and no edge of a closed list other than a-b and b-a. Then the winding number falls from p to q by the number of edges a-b less that of edges b-a.

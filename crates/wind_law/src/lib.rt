@@ -2,8 +2,13 @@
 #![tactic(auto)]
 
 mod balance;
+mod crossings;
 pub mod laws;
 
 pub use balance::closed;
+pub use crossings::winding;
 pub use grid_geom::Edge;
 pub use std::alloc::AllocError as OutOfMemory;
+
+#[cfg(test)]
+mod tests;
