@@ -22,13 +22,14 @@ use Rattle.grid_geom.proofs.Ring.{var, num, ◌⊕◌, ◌⊖◌, ◌⊗◌, rin
 use Rattle.grid_geom.proofs.Lines.{through_is, orient_whole, orient_back}
 use Rattle.grid_geom.proofs.Triangle.{turn, mean_k, centre as third}
 use Rattle.grid_geom.proofs.Signs.{pos_factor}
+use Rattle.grid_geom.proofs.Convex.{inside_lines}
 use Rattle.grid_geom.proofs.Polygon.{IsFan, AreLeftOf, polygon_left}
 use Rattle.wind_law.specs.Centre.{centre, sum_x, sum_y}
 use Rattle.wind_law.proofs.Counting.{total}
 use Rattle.wind_law.proofs.Uncrossed.{IsPartedByLine, uncrossed}
 use Rattle.wind_law.proofs.EdgeLines.{line_start, line_end, line_directed}
 use Rattle.wind_law.proofs.Corners.{IsEndOrLeft}
-use Rattle.wind_law.proofs.Polygons.{by_corners, side_lines, weak_ends, third_inside, centre_third}
+use Rattle.wind_law.proofs.Polygons.{by_corners, weak_ends, third_inside, centre_third}
 
 abbrev IsInside : RatPoint → List Point → Type 0
 IsInside q cs = AllByRecursion (λ e. pos 0 <ℤ orient_rat e.a e.b q) (sides cs)
@@ -56,7 +57,7 @@ lines_left c d (p ∷ cs) h = (subst (λ (z : ℤ). pos 0 ≤ℤ z) (sym (at_who
 
 own_line : (c d o u : Point) (ws : List Point) (q : RatPoint) → ¬ (c ≡ d) → IsFan o u ws → AllByRecursion (λ p. pos 0 ≤ℤ orient c d p) (o ∷ u ∷ ws) → IsInside q (o ∷ u ∷ ws) → pos 0 <ℤ side (through c d) q
 own_line c d o u ws q n f h i = polygon_left (through c d) o u ws q (record { fan = f }) (line_directed c d n) (lines_left c d (o ∷ u ∷ ws) h).0 (lines_left c d (o ∷ u ∷ ws) h).1.0 (lines_left c d (o ∷ u ∷ ws) h).1.1
-    (subst (λ (z : ℤ). pos 0 <ℤ z) (sym (through_is o u q)) i.0, side_lines q o u ws i.1)
+    (inside_lines q (sides (o ∷ u ∷ ws)) i)
 
 back_left : (c d : Point) (cs : List Point) → AllByRecursion (λ p. orient c d p ≤ℤ pos 0) cs → AllByRecursion (λ p. pos 0 ≤ℤ orient d c p) cs
 back_left c d [] h = tt
