@@ -77,12 +77,12 @@ convex_from o u w ws v = record {
     seen : (i j : ℕ) → i < length cs → j < length cs → IsEndOrLeft (record { a = corner_at cs i; b = corner_at cs (after cs i) }) (get_or cs j nowhere)
     seen i j h k = elim (compared j i) [
       | inl e ↦ inl (ap (corner_at cs) e)
-      | inr n ↦ elim (compared j (after cs i)) [ inl e ↦ inr (inl (ap (corner_at cs) e)) | inr m ↦ inr (inr (v.left i j h k n m)) ]
+      | inr n ↦ elim (compared j (after cs i)) [ inl e ↦ inr (inl (ap (corner_at cs) e)) | inr m ↦ inr (inr (v.left i h j k n m)) ]
     ]
 
     first : (k : ℕ) → k < length (w ∷ ws) → pos 0 <ℤ orient o u (get_or (w ∷ ws) k nowhere)
     first k h = subst (λ (n : ℕ). pos 0 <ℤ orient o (corner_at cs n) (get_or (w ∷ ws) k nowhere)) (second (length ws))
-        (v.left 0 (suc (suc k)) (omega arith) (omega arith) (λ e. omega (arith, e)) (λ e. omega (arith, e, second (length ws))))
+        (v.left 0 (omega arith) (suc (suc k)) (omega arith) (λ e. omega (arith, e)) (λ e. omega (arith, e, second (length ws))))
       where
         second : (n : ℕ) → (0 + 1) % suc (suc (suc n)) ≡ 1
         second n = let below : 0 + 1 < suc (suc (suc n)) = omega arith in let e = mod-eq_of_lt below in omega (arith, e)
