@@ -1,8 +1,8 @@
 -- What strict convexity, said by the positions of the corners, gives along the list of the sides.
--- Stands on grid_geom's definitions alone. The first two corners are called o and u, the third w.
+-- Stands on grid_geom's Convex. The first two corners are called o and u, the third w.
 use Prim.Native.Nat.{ℕ, suc, ◌+◌, ◌%◌, ◌<◌}
 use lib.ListN.{get_or, length}
-use lib.IntN.{ℤ, pos}
+use lib.IntN.{pos}
 use lib.Signed.{◌<ℤ◌}
 use mathlib.Core.Path.{◌≡◌, sym, ap, ◌∙◌, subst}
 use mathlib.Core.List.{List, [], ◌∷◌, ◌++◌}
@@ -16,8 +16,8 @@ use Rattle.grid_geom.specs.declared.Point.{Point}
 use Rattle.grid_geom.specs.declared.Edge.{Edge}
 use Rattle.grid_geom.specs.Plane.{orient}
 use Rattle.grid_geom.specs.Polygon.{sides, way_round, corner_at, after, IsStrictlyConvex}
+use Rattle.grid_geom.proofs.Convex.{strict}
 use Rattle.grid_geom.proofs.Polygon.{IsFan}
-use Rattle.grid_geom.proofs.Triangle.{turn}
 
 -- ---- sides by position
 abbrev nowhere : Point
@@ -51,10 +51,6 @@ corners_all : (P : Point → Type 0) (cs : List Point) → ((k : ℕ) → k < le
 corners_all P [] f = tt
 corners_all P (c ∷ cs) f = (f 0 (omega arith), corners_all P cs (λ k h. f (suc k) (omega arith)))
 
-fan_all : (o from : Point) (ws : List Point) → ((k : ℕ) → k < length ws → pos 0 <ℤ orient o (get_or (from ∷ ws) k nowhere) (get_or ws k nowhere)) → IsFan o from ws
-fan_all o from [] f = tt
-fan_all o from (to ∷ ws) f = (f 0 (omega arith), fan_all o to ws (λ k h. f (suc k) (omega arith)))
-
 -- ---- the corners seen from a side
 -- c is an end of the side e, or strictly left of it
 abbrev pub IsEndOrLeft : Edge → Point → Type 0
@@ -70,7 +66,7 @@ compared a b = grind arith
 
 pub convex_from : (o u w : Point) (ws : List Point) → IsStrictlyConvex (o ∷ u ∷ w ∷ ws) → IsConvexFrom o u w ws
 convex_from o u w ws v = record {
-  fan = fan_all o u (w ∷ ws) (λ k h. subst (λ (z : ℤ). pos 0 <ℤ z) (sym (turn o (get_or (u ∷ w ∷ ws) k nowhere) (get_or (w ∷ ws) k nowhere))) (past k h));
+  fan = (strict o u (w ∷ ws) v).polygon.fan;
   ahead = corners_all (λ c. pos 0 <ℤ orient o u c) (w ∷ ws) (λ k h. first k h);
   strict = sides_all (λ e. AllByRecursion (IsEndOrLeft e) cs) o (u ∷ w ∷ ws) (λ i h. corners_all (IsEndOrLeft (record { a = corner_at cs i; b = corner_at cs (after cs i) })) cs (λ j k. seen i j (omega (arith, h)) k));
 }
@@ -81,20 +77,12 @@ convex_from o u w ws v = record {
     seen : (i j : ℕ) → i < length cs → j < length cs → IsEndOrLeft (record { a = corner_at cs i; b = corner_at cs (after cs i) }) (get_or cs j nowhere)
     seen i j h k = elim (compared j i) [
       | inl e ↦ inl (ap (corner_at cs) e)
-      | inr n ↦ elim (compared j (after cs i)) [ inl e ↦ inr (inl (ap (corner_at cs) e)) | inr m ↦ inr (inr (v.left i j h k n m)) ]
+      | inr n ↦ elim (compared j (after cs i)) [ inl e ↦ inr (inl (ap (corner_at cs) e)) | inr m ↦ inr (inr (v.left i h j k n m)) ]
     ]
-
-    -- the side from the corner at 1 + k, seen from o
-    past : (k : ℕ) → k < length (w ∷ ws) → pos 0 <ℤ orient (get_or (u ∷ w ∷ ws) k nowhere) (get_or (w ∷ ws) k nowhere) o
-    past k h = subst (λ (n : ℕ). pos 0 <ℤ orient (get_or (u ∷ w ∷ ws) k nowhere) (corner_at cs n) o) (next k (length ws) h)
-        (v.left (suc k) 0 (omega arith) (omega arith) (λ e. omega (arith, e)) (λ e. omega (arith, e, next k (length ws) h)))
-      where
-        next : (k n : ℕ) → k < suc n → (suc k + 1) % suc (suc (suc n)) ≡ suc (suc k)
-        next k n h = let below : suc k + 1 < suc (suc (suc n)) = omega arith in let e = mod-eq_of_lt below in omega (arith, e)
 
     first : (k : ℕ) → k < length (w ∷ ws) → pos 0 <ℤ orient o u (get_or (w ∷ ws) k nowhere)
     first k h = subst (λ (n : ℕ). pos 0 <ℤ orient o (corner_at cs n) (get_or (w ∷ ws) k nowhere)) (second (length ws))
-        (v.left 0 (suc (suc k)) (omega arith) (omega arith) (λ e. omega (arith, e)) (λ e. omega (arith, e, second (length ws))))
+        (v.left 0 (omega arith) (suc (suc k)) (omega arith) (λ e. omega (arith, e)) (λ e. omega (arith, e, second (length ws))))
       where
         second : (n : ℕ) → (0 + 1) % suc (suc (suc n)) ≡ 1
         second n = let below : 0 + 1 < suc (suc (suc n)) = omega arith in let e = mod-eq_of_lt below in omega (arith, e)

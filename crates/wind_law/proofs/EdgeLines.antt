@@ -9,14 +9,14 @@ use Rattle.std.specs.List.{AllByRecursion}
 use Rattle.grid_geom.specs.declared.Point.{Point}
 use Rattle.grid_geom.specs.declared.RatPoint.{RatPoint}
 use Rattle.grid_geom.specs.declared.Edge.{Edge}
-use Rattle.grid_geom.specs.Plane.{orient_rat}
-use Rattle.grid_geom.specs.Line.{Line, side, whole, through}
+use Rattle.grid_geom.specs.Line.{side, whole, through}
 use Rattle.grid_geom.specs.Sides.{IsOnClosed}
 use Rattle.grid_geom.specs.Closed.{IsEdge}
 use Rattle.grid_geom.proofs.Ring.{var, ◌⊕◌, ◌⊖◌, ◌⊗◌, ring}
 use Rattle.grid_geom.proofs.Lines.{through_is, orient_whole, flat_first, flat_second}
 use Rattle.grid_geom.proofs.Meeting.{squared_pos}
 use Rattle.grid_geom.proofs.Near.{IsDirected}
+use Rattle.grid_geom.proofs.Polygon.{lines}
 
 pub line_start : (a b : Point) → side (through a b) (whole a) ≤ℤ pos 0
 line_start a b = omega (arith, ints, through_is a b (whole a) ∙ orient_whole a b a ∙ flat_first a b)
@@ -30,16 +30,6 @@ on_line m a b h = through_is a b m ∙ h.straight
 pub line_directed : (a b : Point) → ¬ (a ≡ b) → IsDirected (through a b)
 line_directed a b n = record { direction = subst (λ (z : ℤ). pos 0 <ℤ z) (ring (a.x ∷ a.y ∷ b.x ∷ b.y ∷ []) ((var 2 ⊖ var 0) ⊗ (var 2 ⊖ var 0) ⊕ (var 3 ⊖ var 1) ⊗ (var 3 ⊖ var 1)) ((var 1 ⊖ var 3) ⊗ (var 1 ⊖ var 3) ⊕ (var 2 ⊖ var 0) ⊗ (var 2 ⊖ var 0)) refl) (squared_pos a b n) }
 
--- the lines of a list of edges
-abbrev pub lines : List Edge → List Line
-lines [] = []
-lines (e ∷ es) = through e.a e.b ∷ lines es
-
 pub lines_directed : (es : List Edge) → AllByRecursion IsEdge es → AllByRecursion IsDirected (lines es)
 lines_directed [] n = tt
 lines_directed (e ∷ es) n = (line_directed e.a e.b n.0, lines_directed es n.1)
-
--- a point strictly left of the lines is strictly left of the edges
-pub left_of_edges : (q : RatPoint) (es : List Edge) → AllByRecursion (λ l. pos 0 <ℤ side l q) (lines es) → AllByRecursion (λ e. pos 0 <ℤ orient_rat e.a e.b q) es
-left_of_edges q [] h = tt
-left_of_edges q (e ∷ es) h = (subst (λ (z : ℤ). pos 0 <ℤ z) (through_is e.a e.b q) h.0, left_of_edges q es h.1)

@@ -1,6 +1,6 @@
 -- Law Inside: a closed list of edges that are all apart from an open polygon winds alike round all its points; so once, if it winds once round the centre.
 -- From each edge a line parts any two points of the polygon: the line of the side that the edge is outside of, or the edge's own line. Stands on Uncrossed, Corners, and grid_geom's Polygon.
-use Prim.Native.Nat.{ℕ, zero, suc, ◌<◌}
+use Prim.Native.Nat.{ℕ, suc}
 use lib.IntN.{ℤ, pos, ◌+ℤ◌, ◌-ℤ◌, ◌*ℤ◌}
 use lib.ListN.{length}
 use lib.Signed.{◌<ℤ◌, ◌≤ℤ◌}
@@ -15,20 +15,21 @@ use Rattle.grid_geom.specs.declared.RatPoint.{RatPoint}
 use Rattle.grid_geom.specs.declared.Edge.{Edge}
 use Rattle.grid_geom.specs.Plane.{orient, orient_rat, IsRational}
 use Rattle.grid_geom.specs.Line.{side, whole, through}
-use Rattle.grid_geom.specs.Polygon.{sides, corner_at, after, IsStrictlyConvex, IsInPolygon, IsApart, outside_a_side, all_left, all_right}
+use Rattle.grid_geom.specs.Polygon.{sides, IsStrictlyConvex, IsInPolygon, IsApart, outside_a_side, all_left, all_right}
 use Rattle.grid_geom.specs.Winding.{wind}
 use Rattle.grid_geom.specs.Closed.{IsClosed, IsEdge}
 use Rattle.grid_geom.proofs.Ring.{var, num, ◌⊕◌, ◌⊖◌, ◌⊗◌, ring}
 use Rattle.grid_geom.proofs.Lines.{through_is, orient_whole, orient_back}
-use Rattle.grid_geom.proofs.Triangle.{turn, mean_k, centre as third}
+use Rattle.grid_geom.proofs.Triangle.{mean_k, centre as third}
 use Rattle.grid_geom.proofs.Signs.{pos_factor}
+use Rattle.grid_geom.proofs.Convex.{inside_lines, triangle_convex}
 use Rattle.grid_geom.proofs.Polygon.{IsFan, AreLeftOf, polygon_left}
 use Rattle.wind_law.specs.Centre.{centre, sum_x, sum_y}
 use Rattle.wind_law.proofs.Counting.{total}
 use Rattle.wind_law.proofs.Uncrossed.{IsPartedByLine, uncrossed}
 use Rattle.wind_law.proofs.EdgeLines.{line_start, line_end, line_directed}
 use Rattle.wind_law.proofs.Corners.{IsEndOrLeft}
-use Rattle.wind_law.proofs.Polygons.{by_corners, side_lines, weak_ends, third_inside, centre_third}
+use Rattle.wind_law.proofs.Polygons.{by_corners, weak_ends, third_inside, centre_third}
 
 abbrev IsInside : RatPoint → List Point → Type 0
 IsInside q cs = AllByRecursion (λ e. pos 0 <ℤ orient_rat e.a e.b q) (sides cs)
@@ -56,7 +57,7 @@ lines_left c d (p ∷ cs) h = (subst (λ (z : ℤ). pos 0 ≤ℤ z) (sym (at_who
 
 own_line : (c d o u : Point) (ws : List Point) (q : RatPoint) → ¬ (c ≡ d) → IsFan o u ws → AllByRecursion (λ p. pos 0 ≤ℤ orient c d p) (o ∷ u ∷ ws) → IsInside q (o ∷ u ∷ ws) → pos 0 <ℤ side (through c d) q
 own_line c d o u ws q n f h i = polygon_left (through c d) o u ws q (record { fan = f }) (line_directed c d n) (lines_left c d (o ∷ u ∷ ws) h).0 (lines_left c d (o ∷ u ∷ ws) h).1.0 (lines_left c d (o ∷ u ∷ ws) h).1.1
-    (subst (λ (z : ℤ). pos 0 <ℤ z) (sym (through_is o u q)) i.0, side_lines q o u ws i.1)
+    (inside_lines q (sides (o ∷ u ∷ ws)) i)
 
 back_left : (c d : Point) (cs : List Point) → AllByRecursion (λ p. orient c d p ≤ℤ pos 0) cs → AllByRecursion (λ p. pos 0 ≤ℤ orient d c p) cs
 back_left c d [] h = tt
@@ -129,23 +130,6 @@ pub inside_polygon : (cs : List Point) (p : RatPoint) (es : List Edge) → IsStr
 inside_polygon cs p es v n c h w kp hp = alike_inside cs p (centre cs) es v n c h kp (centre_rational cs v) hp (centre_in_polygon cs v) ∙ w
 
 -- ---- triangles
--- a triangle that turns to the left is strictly convex
-pub triangle_convex : (a b c : Point) → pos 0 <ℤ orient a b c → IsStrictlyConvex (a ∷ b ∷ c ∷ [])
-triangle_convex a b c h = record { enough = omega arith; left = seen }
-  where
-    seen : (i j : ℕ) → i < 3 → j < 3 → (j ≡ i → ⊥) → (j ≡ after (a ∷ b ∷ c ∷ []) i → ⊥) → pos 0 <ℤ orient (corner_at (a ∷ b ∷ c ∷ []) i) (corner_at (a ∷ b ∷ c ∷ []) (after (a ∷ b ∷ c ∷ []) i)) (corner_at (a ∷ b ∷ c ∷ []) j)
-    seen zero zero hi hj n m = absurd (n refl)
-    seen zero (suc zero) hi hj n m = absurd (m refl)
-    seen zero (suc (suc zero)) hi hj n m = h
-    seen (suc zero) zero hi hj n m = subst (λ (z : ℤ). pos 0 <ℤ z) (turn a b c) h
-    seen (suc zero) (suc zero) hi hj n m = absurd (n refl)
-    seen (suc zero) (suc (suc zero)) hi hj n m = absurd (m refl)
-    seen (suc (suc zero)) zero hi hj n m = absurd (m refl)
-    seen (suc (suc zero)) (suc zero) hi hj n m = subst (λ (z : ℤ). pos 0 <ℤ z) (turn a b c ∙ turn b c a) h
-    seen (suc (suc zero)) (suc (suc zero)) hi hj n m = absurd (n refl)
-    seen i (suc (suc (suc j))) hi hj n m = absurd (omega arith)
-    seen (suc (suc (suc i))) j hi hj n m = absurd (omega arith)
-
 -- a triangle with a point in it turns to the left
 pub triangle_turns : (a b c : Point) (p : RatPoint) → IsRational p → IsInPolygon p (a ∷ b ∷ c ∷ []) → pos 0 <ℤ orient a b c
 triangle_turns a b c p kp i = pos_factor p.k (orient a b c) (summed (orient a b c) p.k (mean_k a b c p) i.left.1.0 i.left.1.1.0 i.left.0) (weak kp.positive)

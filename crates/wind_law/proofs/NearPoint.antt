@@ -23,7 +23,9 @@ use Rattle.grid_geom.proofs.Means.{side_mean}
 use Rattle.grid_geom.proofs.Near.{IsWedge, IsNear, near}
 use Rattle.wind_law.specs.Centre.{centre}
 use Rattle.wind_law.specs.Near.{IsSamePlace, IsInClosure, MeetsAtMostIn, HasPointNear}
-use Rattle.wind_law.proofs.EdgeLines.{lines, lines_directed, on_line, left_of_edges}
+use Rattle.grid_geom.proofs.Polygon.{lines}
+use Rattle.grid_geom.proofs.Convex.{lines_inside}
+use Rattle.wind_law.proofs.EdgeLines.{lines_directed, on_line}
 use Rattle.wind_law.proofs.Inside.{centre_in_polygon, centre_rational}
 
 -- ---- a mean of two values that are on one side of 0, the second strictly
@@ -97,7 +99,7 @@ near_point v corners es kv c h n = result (near v (centre corners) (lines (sides
     result r = record {
       at = r.at;
       rational = record { positive = r.rational };
-      inside = record { left = left_of_edges r.at (sides corners) r.inside };
+      inside = record { left = lines_inside r.at (sides corners) r.inside };
       off = off_edges v r.at es r.clear;
       free = free_edges v r.at es kv r.clear;
     }

@@ -2,7 +2,7 @@
 -- It lies near the middle of that side: the middle is strictly left of all other sides of both, and either centre is strictly left of that side. Stands on grid_geom's Near, on EdgeLines, NearPoint and Inside.
 use lib.IntN.{ℤ, pos, ◌+ℤ◌, ◌-ℤ◌}
 use lib.Signed.{◌<ℤ◌, ◌≤ℤ◌}
-use mathlib.Core.Path.{◌≡◌, refl, sym, ap, ◌∙◌, subst}
+use mathlib.Core.Path.{◌≡◌, refl, sym, ◌∙◌, subst}
 use mathlib.Core.List.{List, [], ◌∷◌, ◌++◌}
 use mathlib.Core.Logic.{◌⊎◌, inl, inr}
 use native.Mathlib.Omega.{arith}
@@ -12,19 +12,20 @@ use Rattle.std.specs.List.{AllByRecursion, Contains}
 use Rattle.grid_geom.specs.declared.Point.{Point}
 use Rattle.grid_geom.specs.declared.RatPoint.{RatPoint}
 use Rattle.grid_geom.specs.declared.Edge.{Edge}
-use Rattle.grid_geom.specs.Plane.{orient, orient_rat, IsRational}
+use Rattle.grid_geom.specs.Plane.{orient, orient_rat}
 use Rattle.grid_geom.specs.Line.{Line, side, through}
-use Rattle.grid_geom.specs.Polygon.{sides, way_round, IsStrictlyConvex, IsInPolygon}
-use Rattle.grid_geom.specs.Closed.{IsEdge, IsOff}
-use Rattle.grid_geom.proofs.Ring.{E, var, num, ◌⊕◌, ◌⊖◌, ◌⊗◌, ring}
-use Rattle.grid_geom.proofs.Lines.{through_is, orient_back, flat_first, flat_second}
+use Rattle.grid_geom.specs.Polygon.{sides, way_round, IsStrictlyConvex}
+use Rattle.grid_geom.specs.Closed.{IsEdge}
+use Rattle.grid_geom.proofs.Ring.{var, num, ◌⊕◌, ◌⊖◌, ◌⊗◌, ring}
+use Rattle.grid_geom.proofs.Lines.{through_is, orient_back}
 use Rattle.grid_geom.proofs.Near.{IsAhead, within, towards, IsNear, near_ahead}
-use Rattle.wind_law.specs.Chains.{edge}
 use Rattle.wind_law.specs.Centre.{centre}
 use Rattle.wind_law.specs.Near.{HaveCommonPoint}
-use Rattle.wind_law.proofs.Corners.{IsEndOrLeft, convex_from}
+use Rattle.wind_law.proofs.Corners.{IsEndOrLeft}
 use Rattle.wind_law.proofs.Polygons.{by_corners, weak_end}
-use Rattle.wind_law.proofs.EdgeLines.{lines, lines_directed, left_of_edges}
+use Rattle.grid_geom.proofs.Polygon.{lines}
+use Rattle.grid_geom.proofs.Convex.{lines_inside}
+use Rattle.wind_law.proofs.EdgeLines.{lines_directed}
 use Rattle.wind_law.proofs.Inside.{centre_in_polygon, centre_rational}
 use Rattle.wind_law.proofs.NearPoint.{off_edges}
 
@@ -115,7 +116,7 @@ overlap cs ds e es v w n m h = result (near_ahead (middle e) (centre cs) (lines 
     result r = record {
       at = r.at;
       rational = record { positive = r.rational };
-      in_first = record { left = left_of_edges r.at (sides cs) (first_all (λ l. pos 0 <ℤ side l r.at) (lines (sides cs)) (lines (sides ds)) r.inside) };
-      in_second = record { left = left_of_edges r.at (sides ds) (second_all (λ l. pos 0 <ℤ side l r.at) (lines (sides cs)) (lines (sides ds)) r.inside) };
+      in_first = record { left = lines_inside r.at (sides cs) (first_all (λ l. pos 0 <ℤ side l r.at) (lines (sides cs)) (lines (sides ds)) r.inside) };
+      in_second = record { left = lines_inside r.at (sides ds) (second_all (λ l. pos 0 <ℤ side l r.at) (lines (sides cs)) (lines (sides ds)) r.inside) };
       off = off_edges (middle e) r.at es r.clear;
     }

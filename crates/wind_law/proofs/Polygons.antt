@@ -25,7 +25,8 @@ use Rattle.grid_geom.proofs.Ring.{E, var, num, ◌⊕◌, ◌⊖◌, ◌⊗◌, 
 use Rattle.grid_geom.proofs.Signs.{either, nn_mul, pos_mul}
 use Rattle.grid_geom.proofs.Lines.{through_is, orient_whole, flat_first, flat_second}
 use Rattle.grid_geom.proofs.Triangle.{turn, centre, centre_inside}
-use Rattle.grid_geom.proofs.Polygon.{IsFan, sides_from, AreLeftOf, weakly_left}
+use Rattle.grid_geom.proofs.Convex.{inside_lines}
+use Rattle.grid_geom.proofs.Polygon.{lines, IsFan, AreLeftOf, weakly_left}
 use Rattle.grid_geom.proofs.Near.{mix, side_mix}
 use Rattle.grid_geom.proofs.Meeting.{nn_square}
 use Rattle.wind_law.specs.Chains.{edge}
@@ -188,14 +189,9 @@ mixed_side n q z a b hn hq hz = added (side_mix (through a b) n q z) (through_is
     added : {m x y t : ℤ} → m ≡ x +ℤ y → y ≡ t → pos 0 ≤ℤ x → pos 0 <ℤ t → pos 0 <ℤ m
     added {m} {x} {y} {t} e f h j = omega (arith, ints)
 
-mixed_sides : (n : ℤ) (q z : RatPoint) (first from : Point) (ws : List Point) → pos 0 ≤ℤ n → AllByRecursion (λ e. pos 0 ≤ℤ orient_rat e.a e.b q) (way_round first from ws) → AllByRecursion (λ e. pos 0 <ℤ orient_rat e.a e.b z) (way_round first from ws)
-    → AllByRecursion (λ s. pos 0 <ℤ side s (mix n q z)) (sides_from first from ws)
-mixed_sides n q z first from [] hn hq hz = (mixed_side n q z from first hn hq.0 hz.0, tt)
-mixed_sides n q z first from (to ∷ ws) hn hq hz = (mixed_side n q z from to hn hq.0 hz.0, mixed_sides n q z first to ws hn hq.1 hz.1)
-
-pub side_lines : (z : RatPoint) (first from : Point) (ws : List Point) → AllByRecursion (λ e. pos 0 <ℤ orient_rat e.a e.b z) (way_round first from ws) → AllByRecursion (λ s. pos 0 <ℤ side s z) (sides_from first from ws)
-side_lines z first from [] h = (subst (λ (m : ℤ). pos 0 <ℤ m) (sym (through_is from first z)) h.0, tt)
-side_lines z first from (to ∷ ws) h = (subst (λ (m : ℤ). pos 0 <ℤ m) (sym (through_is from to z)) h.0, side_lines z first to ws h.1)
+mixed_sides : (n : ℤ) (q z : RatPoint) (es : List Edge) → pos 0 ≤ℤ n → AllByRecursion (λ e. pos 0 ≤ℤ orient_rat e.a e.b q) es → AllByRecursion (λ e. pos 0 <ℤ orient_rat e.a e.b z) es → AllByRecursion (λ s. pos 0 <ℤ side s (mix n q z)) (lines es)
+mixed_sides n q z [] hn hq hz = tt
+mixed_sides n q z (e ∷ es) hn hq hz = (mixed_side n q z e.a e.b hn hq.0 hz.0, mixed_sides n q z es hn hq.1 hz.1)
 
 -- n s + t is never below 0, so s is not
 never_below : (s t m : ℤ) → pos 0 ≤ℤ t → m ≡ (t +ℤ pos 1) *ℤ s +ℤ t → pos 0 ≤ℤ m → s <ℤ pos 0 → ⊥
@@ -208,11 +204,11 @@ closed_left : (l : Line) (o u : Point) (ws : List Point) (q z : RatPoint) → Is
 closed_left l o u ws q z f hl hq hz = elim (either (pos 0) (side l q)) [
   | inl h ↦ h
   | inr h ↦ absurd (never_below (side l q) (side l z) (side l (mix n q z)) z_left (side_mix l n q z)
-      (weakly_left l o u ws (mix n q z) (record { fan = f }) hl.0 hl.1.0 hl.1.1 (mixed_side n q z o u some hq.0 hz.0, mixed_sides n q z o u ws some hq.1 hz.1)) h)
+      (weakly_left l o u ws (mix n q z) (record { fan = f }) hl.0 hl.1.0 hl.1.1 (mixed_sides n q z (sides (o ∷ u ∷ ws)) some hq hz)) h)
 ]
   where
     z_left : pos 0 ≤ℤ side l z
-    z_left = weakly_left l o u ws z (record { fan = f }) hl.0 hl.1.0 hl.1.1 (subst (λ (m : ℤ). pos 0 <ℤ m) (sym (through_is o u z)) hz.0, side_lines z o u ws hz.1)
+    z_left = weakly_left l o u ws z (record { fan = f }) hl.0 hl.1.0 hl.1.1 (inside_lines z (sides (o ∷ u ∷ ws)) hz)
 
     n : ℤ
     n = side l z +ℤ pos 1

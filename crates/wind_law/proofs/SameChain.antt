@@ -11,8 +11,7 @@ use Rattle.grid_geom.specs.declared.Point.{Point}
 use Rattle.grid_geom.specs.declared.RatPoint.{RatPoint}
 use Rattle.grid_geom.specs.declared.Edge.{Edge}
 use Rattle.grid_geom.specs.Plane.{orient}
-use Rattle.grid_geom.specs.Area.{sweep, shoelace}
-use Rattle.grid_geom.specs.Polygon.{sides}
+use Rattle.grid_geom.specs.Area.{sweep_of, shoelace}
 use Rattle.grid_geom.specs.Winding.{and, cross, wind}
 use Rattle.grid_geom.specs.Closed.{same_point, leaving, arriving, IsClosed}
 use Rattle.grid_geom.proofs.Ring.{var, num, ◌⊕◌, ◌⊖◌, ◌⊗◌, ring}
@@ -89,33 +88,25 @@ pub same_wind : (q : RatPoint) (es fs : List Edge) → IsSameChain es fs → win
 same_wind q es fs h = wind_total q es ∙ same_chain (cross q) (λ e. cross_back q e.a e.b) es fs h ∙ sym (wind_total q fs)
 
 -- ---- doubled areas
-shoelace_total : (es : List Edge) → shoelace es ≡ total sweep es
+shoelace_total : (es : List Edge) → shoelace es ≡ total sweep_of es
 shoelace_total [] = refl
-shoelace_total (e ∷ es) = ap (λ (z : ℤ). sweep e +ℤ z) (shoelace_total es)
+shoelace_total (e ∷ es) = ap (λ (z : ℤ). sweep_of e +ℤ z) (shoelace_total es)
 
-sweep_back : (e : Edge) → sweep (back e) ≡ pos 0 -ℤ sweep e
+sweep_back : (e : Edge) → sweep_of (back e) ≡ pos 0 -ℤ sweep_of e
 sweep_back e = ring (e.a.x ∷ e.a.y ∷ e.b.x ∷ e.b.y ∷ []) (var 2 ⊗ var 1 ⊖ var 3 ⊗ var 0) (num (pos 0) ⊖ (var 0 ⊗ var 3 ⊖ var 1 ⊗ var 2)) refl
 
 pub same_area : (es fs : List Edge) → IsSameChain es fs → shoelace es ≡ shoelace fs
-same_area es fs h = shoelace_total es ∙ same_chain sweep sweep_back es fs h ∙ sym (shoelace_total fs)
-
-pub area_append : (es fs : List Edge) → shoelace (es ++ fs) ≡ shoelace es +ℤ shoelace fs
-area_append es fs = shoelace_total (es ++ fs) ∙ total_append sweep es fs ∙ ap (λ (z : ℤ). z +ℤ total sweep fs) (sym (shoelace_total es)) ∙ ap (λ (z : ℤ). shoelace es +ℤ z) (sym (shoelace_total fs))
+same_area es fs h = shoelace_total es ∙ same_chain sweep_of sweep_back es fs h ∙ sym (shoelace_total fs)
 
 pub area_back : (a b : Point) → shoelace (edge a b ∷ edge b a ∷ []) ≡ pos 0
-area_back a b = ends (sweep (edge a b)) (sweep (edge b a)) (sweep_back (edge a b))
+area_back a b = ends (sweep_of (edge a b)) (sweep_of (edge b a)) (sweep_back (edge a b))
   where
     ends : (c d : ℤ) → d ≡ pos 0 -ℤ c → c +ℤ (d +ℤ pos 0) ≡ pos 0
     ends c d s = omega (arith, ints)
 
-pub area_triangle : (a b c : Point) → shoelace (sides (a ∷ b ∷ c ∷ [])) ≡ orient a b c
-area_triangle a b c = ring (a.x ∷ a.y ∷ b.x ∷ b.y ∷ c.x ∷ c.y ∷ [])
-    ((var 0 ⊗ var 3 ⊖ var 1 ⊗ var 2) ⊕ ((var 2 ⊗ var 5 ⊖ var 3 ⊗ var 4) ⊕ ((var 4 ⊗ var 1 ⊖ var 5 ⊗ var 0) ⊕ num (pos 0))))
-    ((var 2 ⊖ var 0) ⊗ (var 5 ⊖ var 1) ⊖ (var 3 ⊖ var 1) ⊗ (var 4 ⊖ var 0)) refl
-
 -- a cut at a point of the edge's line
 pub area_cut : (a b m : Point) → orient a b m ≡ pos 0 → shoelace (edge a m ∷ edge m b ∷ []) ≡ shoelace (edge a b ∷ [])
-area_cut a b m h = parts (sweep (edge a m)) (sweep (edge m b)) (sweep (edge a b)) (ring (a.x ∷ a.y ∷ b.x ∷ b.y ∷ m.x ∷ m.y ∷ [])
+area_cut a b m h = parts (sweep_of (edge a m)) (sweep_of (edge m b)) (sweep_of (edge a b)) (ring (a.x ∷ a.y ∷ b.x ∷ b.y ∷ m.x ∷ m.y ∷ [])
     ((var 0 ⊗ var 3 ⊖ var 1 ⊗ var 2) ⊖ ((var 0 ⊗ var 5 ⊖ var 1 ⊗ var 4) ⊕ (var 4 ⊗ var 3 ⊖ var 5 ⊗ var 2))) ((var 2 ⊖ var 0) ⊗ (var 5 ⊖ var 1) ⊖ (var 3 ⊖ var 1) ⊗ (var 4 ⊖ var 0)) refl ∙ h)
   where
     parts : (c d e : ℤ) → e -ℤ (c +ℤ d) ≡ pos 0 → c +ℤ (d +ℤ pos 0) ≡ e +ℤ pos 0

@@ -19,7 +19,8 @@ fn end_places(alloc: Global, edges: &[Edge]) -> Result<Vec<(i64, i64)>, OutOfMem
     edges.iter().map(|edge| (edge.b.x, edge.b.y)).collect(alloc)
 }
 
-/// Whether at each point as many edges leave as arrive. Takes memory for the edges' ends and time for sorting them, and fails only for want of memory.
+/// Whether at each point as many edges leave as arrive. Takes memory for the edges' ends and time for
+/// sorting them, and fails only for want of memory.
 pub fn closed(alloc: Global, edges: &[Edge]) -> Result<bool, OutOfMemory>
     ensures { IfOk result (λ closed. IsTrue closed ↔ IsClosed edges.now) }
 {

@@ -16,7 +16,8 @@ fn height(p: &Point, q: &RatPoint) -> i128
     p.y as i128 * q.k
 }
 
-/// 1 where the edge rises past q's height with q strictly on its left, -1 where it falls past it with q strictly on its right, else 0. An edge passes the height of its lower end, and not that of its upper end.
+/// 1 where the edge rises past q's height with q strictly on its left, -1 where it falls past it with q
+/// strictly on its right, else 0. An edge passes the height of its lower end, and not that of its upper.
 fn crossing(edge: &Edge, q: &RatPoint) -> i64
     requires start_on { IsOnGrid edge.now.a }
     requires end_on { IsOnGrid edge.now.b }
@@ -36,9 +37,11 @@ fn crossing(edge: &Edge, q: &RatPoint) -> i64
     }
 }
 
-/// How often the edges wind round q, counterclockwise: the sum of their crossings, by the half-open rule of the textbooks. Takes no memory.
+/// How often the edges wind round q, counterclockwise: the sum of their crossings, by the half-open rule
+/// of the textbooks. Of points on an edge that rule alone decides. Takes no memory.
 ///
-/// The edges' ends are on the grid; q has numerators of at most `GREATEST_NUMERATOR` in absolute value and a denominator from 1 to `GREATEST_DENOMINATOR`. Of points on an edge the rule alone decides.
+/// The edges' ends are on the grid. q has numerators of at most `GREATEST_NUMERATOR` in absolute value and
+/// a denominator from 1 to `GREATEST_DENOMINATOR`.
 pub fn winding(edges: &[Edge], q: &RatPoint) -> i64
     requires on_grid { AreOnGrid edges.now }
     requires measured { IsMeasured q.now }

@@ -1,5 +1,5 @@
 use Rattle.wind_law.proofs.Polygons.{polygon_inside, polygon_outside, sides_closed}
-use Rattle.wind_law.proofs.Inside.{triangle_convex}
+use Rattle.grid_geom.proofs.Convex.{triangle_convex}
 use Rattle.wind_law.proofs.laws.law_polygon.Goals as goal
 
 pub returns : goal.returns
