@@ -1,6 +1,7 @@
 -- A domain's opening front is its boundary.
 use Rattle.std.proofs.Common.{◌≡◌, ℕ, ◌+◌, ◌-◌, ◌<◌, ◌==◌, Bool, true, false, not, ◌||◌, cond, List, [], ◌∷◌, ◌++◌, map, filter, length, slice_index_or, None, refl, ap, sym, ◌∙◌, append_assoc, true≢false, arith, pos}
-use Rattle.std.specs.List.{list_any, position_or_len}
+use Rattle.std.proofs.lemmas.List.Elements.{All-map}
+use Rattle.std.specs.List.{All, list_any, position_or_len}
 use Rattle.std.proofs.Math.Seq.{get_or-append_seam}
 use Rattle.std.proofs.lemmas.List.{length_push}
 use Rattle.std.proofs.lemmas.List.Sums.{passes_at_first}
@@ -13,6 +14,8 @@ use Rattle.size_field.specs.declared.pieces.Piece.{Piece}
 use Rattle.mesh_run.specs.Boundary.{IsNumberTo, piece_boundary, piece_edge, segment_of, turned_to, whole_pieces, whole_pieces_from}
 use Rattle.mesh_run.specs.Numbering.{ends_of, is_among, number_in}
 use Rattle.mesh_run.specs.Opening.{mesh_points, domain_points, numbered, opening_lines, front_from, unmeshed_run, front_edges}
+use Rattle.mesh_run.specs.Whole.{domain_numbers, unmeshed_runs}
+use Rattle.mesh_run.proofs.Ranges.{all_of}
 use Rattle.mesh_run.proofs.Listed.{same_place, same_itself, among_first}
 
 -- a list where some element passes has a first that does
@@ -165,3 +168,17 @@ whole_after d points all before (s ∷ ss) h =
 -- pieces that are whole segments bound a domain as the segments do
 pub whole_boundary : (d : ℕ) (points : List Point) (segments : List Segment) → piece_boundary d segments (whole_pieces points segments) ≡ boundary points d segments
 whole_boundary d points segments = whole_after d points segments [] segments refl
+
+-- each run's front is its domain's boundary in pieces
+pub fronts_are_boundaries : (segments : List Segment) (pieces : List Piece) → All (λ r. front_edges r ≡ piece_boundary r.domain segments pieces) (unmeshed_runs segments pieces)
+fronts_are_boundaries segments pieces =
+    All-map (λ r. front_edges r ≡ piece_boundary r.domain segments pieces) (λ d. unmeshed_run d segments pieces) (domain_numbers segments)
+    (all_of (λ d. front_edges (unmeshed_run d segments pieces) ≡ piece_boundary d segments pieces) (λ d. front_is_boundary d segments pieces) (domain_numbers segments))
+
+-- and its domain's boundary, where no segment is cut
+pub fronts_are_whole_boundaries : (points : List Point) (segments : List Segment) → All (λ r. front_edges r ≡ boundary points r.domain segments) (unmeshed_runs segments (whole_pieces points segments))
+fronts_are_whole_boundaries points segments =
+    let pieces = whole_pieces points segments in
+    All-map (λ r. front_edges r ≡ boundary points r.domain segments) (λ d. unmeshed_run d segments pieces) (domain_numbers segments)
+    (all_of (λ d. front_edges (unmeshed_run d segments pieces) ≡ boundary points d segments)
+    (λ d. front_is_boundary d segments pieces ∙ whole_boundary d points segments) (domain_numbers segments))

@@ -5,3 +5,4 @@ pub mod Bounded
 pub mod Ranges
 pub mod Named
 pub mod DomainNumbers
+pub mod Ordered

@@ -22,7 +22,8 @@ whole_within n points all (s ∷ ss) first last =
 pub whole_pieces_of : (points : List Point) (segments : List Segment) → All (IsPieceOf segments) (whole_pieces points segments)
 whole_pieces_of points segments = whole_within 1 points segments segments (omega arith) (omega arith)
 
-all_of : {X : Type 0} (P : X → Type 0) → ((x : X) → P x) → (xs : List X) → All P xs
+-- what holds of everything holds of each item
+pub all_of : {X : Type 0} (P : X → Type 0) → ((x : X) → P x) → (xs : List X) → All P xs
 all_of P each [] = All-nil P
 all_of P each (x ∷ xs) = All-cons P x xs (each x) (all_of P each xs)
 

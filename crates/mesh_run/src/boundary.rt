@@ -25,17 +25,21 @@ pub fn uncut(alloc: Global, points: &[Point], segments: &[Segment]) -> Result<Pi
     Ok(Pieces::from_vec(pieces))
 }
 
+/// The piece as an edge, as its segment is walked.
+fn edge_of(piece: &Piece) -> Edge
+    ensures { result ≡ piece_edge piece.now }
+{
+    Edge {
+        a: piece.a,
+        b: piece.b,
+    }
+}
+
 /// The pieces as edges, as the segments are walked.
 pub fn piece_edges(alloc: Global, pieces: &[Piece]) -> Result<Vec<Edge>, OutOfMemory>
     ensures { IfOk result (λ v. v.items ≡ map piece_edge pieces.now) }
 {
-    pieces
-        .iter()
-        .map(|piece| Edge {
-            a: piece.a,
-            b: piece.b,
-        })
-        .collect(alloc)
+    pieces.iter().map(|piece| edge_of(piece)).collect(alloc)
 }
 
 /// Adds what an edge of the segment gives to the boundary of the domain.
@@ -79,11 +83,12 @@ pub fn boundary_of(
 {
     let mut edges = Vec::new(alloc);
     for piece in pieces {
-        let edge = Edge {
-            a: piece.a,
-            b: piece.b,
-        };
-        push_turned(&mut edges, domain, segment_at(segments, piece), edge)?;
+        push_turned(
+            &mut edges,
+            domain,
+            segment_at(segments, piece),
+            edge_of(piece),
+        )?;
     }
     Ok(edges)
 }

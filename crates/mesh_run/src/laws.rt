@@ -1,6 +1,6 @@
 //! The laws of an opening, each as the contract of a function that does nothing.
 
-ghost use Rattle.std.specs.Prelude.{◌≡◌, ◌&&◌, ℕ, List, All, length, nat_eq, not, true};
+ghost use Rattle.std.specs.Prelude.{◌≡◌, ◌<◌, ◌&&◌, ℕ, List, All, length, nat_eq, not, true};
 ghost use Rattle.std.specs.List.{list_any, IsDistinct};
 ghost use Rattle.grid_geom.specs.Bounds.{IsOnGrid};
 ghost use Rattle.grid_geom.specs.Closed.{same_point};
@@ -13,13 +13,14 @@ ghost use Rattle.size_field.specs.declared.pieces.Piece.{Piece};
 ghost use Rattle.mesh_run.specs.Boundary.{piece_boundary, whole_pieces, IsNumberTo, IsPieceOnGrid};
 ghost use Rattle.mesh_run.specs.Mesh.{mesh_of_run, RowJoins};
 ghost use Rattle.mesh_run.specs.Numbering.{by_first_occurrence, is_among, number_in};
-ghost use Rattle.mesh_run.specs.Whole.{domain_numbers, sides_of, IsRising};
+ghost use Rattle.mesh_run.specs.Whole.{domain_numbers, sides_of, unmeshed_runs, IsRising};
 ghost use Rattle.mesh_run.specs.declared.WholeRun.{WholeRun};
 ghost use Rattle.mesh_run.specs.Opening.{front_edges, mesh_points, unmeshed_run, FrontJoins};
 
 /// The front with which a domain begins is the domain's boundary, edge by edge, so it winds round each point as the boundary does.
 pub fn law_front()
     ensures edges { (d : ℕ) (segments : List Segment) (pieces : List Piece) → front_edges (unmeshed_run d segments pieces) ≡ piece_boundary d segments pieces }
+    ensures runs { (segments : List Segment) (pieces : List Piece) → All (λ r. front_edges r ≡ piece_boundary r.domain segments pieces) (unmeshed_runs segments pieces) }
     ensures winds { (d : ℕ) (segments : List Segment) (pieces : List Piece) (q : RatPoint) → wind q (front_edges (unmeshed_run d segments pieces)) ≡ wind q (piece_boundary d segments pieces) }
 {}
 
@@ -27,14 +28,16 @@ pub fn law_front()
 pub fn law_uncut()
     ensures pieces { (d : ℕ) (points : List Point) (segments : List Segment) → piece_boundary d segments (whole_pieces points segments) ≡ boundary points d segments }
     ensures front { (d : ℕ) (points : List Point) (segments : List Segment) → front_edges (unmeshed_run d segments (whole_pieces points segments)) ≡ boundary points d segments }
+    ensures runs { (points : List Point) (segments : List Segment) → All (λ r. front_edges r ≡ boundary points r.domain segments) (unmeshed_runs segments (whole_pieces points segments)) }
 {}
 
-/// Points by first occurrence are different points, the same ones that were given, and each is the one with its number.
+/// Points by first occurrence are different points, the same ones that were given, and each is the one with its number. The one that occurs first has the smaller number.
 pub fn law_numbering()
     ensures different { (ps : List Point) → IsDistinct same_point (by_first_occurrence ps) }
     ensures same { (ps : List Point) (p : Point) → is_among (by_first_occurrence ps) p ≡ is_among ps p }
     ensures within { (ps : List Point) (p : Point) → is_among ps p ≡ true → IsNumberTo (length ps) (number_in ps p) }
     ensures numbered { (ps : List Point) (p : Point) → is_among ps p ≡ true → point_at ps (number_in ps p) ≡ p }
+    ensures ordered { (ps : List Point) (p q : Point) → number_in ps p < number_in ps q → number_in (by_first_occurrence ps) p < number_in (by_first_occurrence ps) q }
 {}
 
 /// Each number that a front line of an opening names is one of the domain's points, and each that an edge row names one of the mesh's; and these are grid points where the pieces' ends are.
