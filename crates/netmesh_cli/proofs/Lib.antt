@@ -1,0 +1,11 @@
+pub mod FiveWords
+pub mod Refusals
+pub mod Courses
+pub mod Standing
+pub mod Exits
+pub mod Tops
+pub mod Exactly
+pub mod Triangles
+pub mod Placings
+pub mod Works
+pub mod Taken

@@ -1,0 +1,80 @@
+//! What a call of the program ends with.
+
+ghost use Rattle.std.specs.Prelude.{◌≡◌};
+ghost use Rattle.netmesh_cli.specs.declared.outcome.Refusal.TheVariants.{Memory as NoMemory};
+ghost use Rattle.netmesh_cli.specs.Status.{status_of, refusal_status};
+
+use std::alloc::AllocError;
+use word_scan::Name;
+
+/// How a call of the program ended.
+#[derive(Debug, Drop)]
+pub enum Outcome {
+    /// Each domain is meshed: no front is left.
+    Done,
+    /// A front is left, and no rule applies to it.
+    Stuck,
+    /// A front is left, and the given number of applications was made.
+    Stopped,
+    /// The verdict was whole or the same.
+    Good,
+    /// The verdict was another.
+    Bad,
+    /// What was asked for is written.
+    Shown,
+    /// Nothing was made of it, and why.
+    Refused(Refusal),
+}
+
+/// Why a call of the program was refused.
+#[derive(Debug, Drop)]
+pub enum Refusal {
+    /// The folder refused the file of this name: 1 a call failed, 2 the file is longer than its
+    /// limit, 3 there is no such file.
+    Folder { name: Name, fault: u32 },
+    /// The answer was not taken.
+    Out,
+    /// There was no memory left.
+    Memory,
+    /// A form that is not built yet: 1 words, 2 a geometry, 3 rules.
+    NotYet { part: u32 },
+}
+
+impl From<AllocError> for Refusal {
+    ghost from_gives = { λ _ refusal. refusal ≡ NoMemory };
+
+    fn from(_refused: AllocError) -> Refusal {
+        Refusal::Memory
+    }
+}
+
+impl Refusal {
+    /// The status of a refusal.
+    fn status(&self) -> u8
+        ensures { result ≡ refusal_status self.now }
+    {
+        match self {
+            Refusal::Folder { .. } => 5,
+            Refusal::Out => 6,
+            Refusal::Memory => 7,
+            Refusal::NotYet { .. } => 12,
+        }
+    }
+}
+
+impl Outcome {
+    /// The status that the program ends with: 0 where the work is done, 1 stuck, 5 a folder's
+    /// refusal, 6 the answer not taken, 7 no memory, 8 stopped, 9 a bad verdict, 12 a form that is
+    /// not built yet.
+    pub fn status(&self) -> u8
+        ensures { result ≡ status_of self.now }
+    {
+        match self {
+            Outcome::Done | Outcome::Good | Outcome::Shown => 0,
+            Outcome::Stuck => 1,
+            Outcome::Stopped => 8,
+            Outcome::Bad => 9,
+            Outcome::Refused(refusal) => refusal.status(),
+        }
+    }
+}

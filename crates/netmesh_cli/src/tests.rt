@@ -1,0 +1,206 @@
+//! The program on triangles, over folders and sinks in memory that fail where they are told to, and
+//! over ones that never fail. Expected texts are written out by hand.
+use crate::{NoGate, Outcome, netmesh};
+use folder_io::{FolderMem, FolderSure, SinkMem, SinkSure};
+use std::alloc::{AllocError, Global};
+use std::test::Fail;
+use std::thread::Threads;
+
+const TRIANGLE: &str =
+    "splinecurves2dv2\n1\npoints\n1 0 0\n2 1 0\n3 0 1\nsegments\n1 0 2 1 2\n1 0 2 2 3\n1 0 2 3 1\n";
+
+const LOG: &str =
+    "netmeshlog 1\nrun 4 2097152 300 10 -\ndomain 1 3 3 0 3 stuck\np 0 0\np 640000 0\np 0 640000\nl 1 2\nl 2 3\nl 3 1\nf 1 1 2\nf 2 2 3\nf 3 3 1\nend\n";
+
+const MESH: &str =
+    "mesh3d\ndimension\n2\ngeomtype\n0\nsurfaceelements\n0\nvolumeelements\n0\nedgesegmentsgi2\n3\n1 0 1 2 0 0 1 0 1 0 1 0\n2 0 2 3 0 0 1 0 2 0 2 0\n3 0 3 1 0 0 1 0 3 0 3 0\npoints\n3\n0.0000000000 0.0000000000 0\n1.0000000000 0.0000000000 0\n0.0000000000 1.0000000000 0\nendmesh\n";
+
+const LINE: &str = "stuck domains 1 applications 0 points 3 elements 0 front 3\n";
+
+fn text(alloc: Global, text: &str) -> Result<String, AllocError> {
+    String::from_str(alloc, text)
+}
+
+fn bytes(alloc: Global, text: &str) -> Result<Vec<u8>, AllocError> {
+    text.as_bytes().to_vec(alloc)
+}
+
+/// The words of a call of `mesh`.
+fn mesh_words(alloc: Global) -> Result<Vec<String>, AllocError> {
+    let mut words = Vec::new(alloc);
+    for word in ["mesh", "g", "r", "m", "l"] {
+        words.push(text(alloc, word)?)?;
+    }
+    Ok(words)
+}
+
+/// A folder that holds these texts as the geometry and the rules.
+fn folder(
+    alloc: Global,
+    geometry: &str,
+    rules: &str,
+    fail: &[u64],
+) -> Result<FolderMem, AllocError> {
+    let names = [text(alloc, "g")?, text(alloc, "r")?];
+    let files = [bytes(alloc, geometry)?, bytes(alloc, rules)?];
+    FolderMem::holding(alloc, &names, &files, fail)
+}
+
+#[test]
+fn a_triangle_is_meshed_and_stuck(rt: HostRuntime) -> Result<(), Fail> {
+    let alloc = rt.alloc();
+    let mut held = folder(alloc, TRIANGLE, "", &[])?;
+    let mut out = SinkMem::new(alloc, &[])?;
+    let outcome = netmesh(
+        &rt,
+        alloc,
+        &mesh_words(alloc)?,
+        &mut held,
+        &mut out,
+        &NoGate,
+    );
+    assert_eq!(rt; outcome.status(), 1);
+    assert_eq!(rt; held.get("l"), Some(LOG.as_bytes()));
+    assert_eq!(rt; held.get("m"), Some(MESH.as_bytes()));
+    assert_eq!(rt; out.written(), LINE.as_bytes());
+    Ok(())
+}
+
+#[test]
+fn a_triangle_is_meshed_over_what_never_fails(rt: HostRuntime) -> Result<(), Fail> {
+    let alloc = rt.alloc();
+    let names = [text(alloc, "g")?, text(alloc, "r")?];
+    let files = [bytes(alloc, TRIANGLE)?, bytes(alloc, " \t\r\n")?];
+    let mut held = FolderSure::holding(alloc, &names, &files)?;
+    let mut out = SinkSure::new(alloc);
+    let outcome = netmesh(
+        &rt,
+        alloc,
+        &mesh_words(alloc)?,
+        &mut held,
+        &mut out,
+        &NoGate,
+    );
+    assert_eq!(rt; outcome.status(), 1);
+    assert_eq!(rt; held.get("l"), Some(LOG.as_bytes()));
+    assert_eq!(rt; held.get("m"), Some(MESH.as_bytes()));
+    assert_eq!(rt; out.written(), LINE.as_bytes());
+    Ok(())
+}
+
+/// The status and the line of a call on these files, where some calls fail.
+fn answer<R: Threads + Sync>(
+    rt: &R,
+    alloc: Global,
+    geometry: &str,
+    rules: &str,
+    fail: &[u64],
+) -> Result<(u8, SinkMem), AllocError> {
+    let mut held = folder(alloc, geometry, rules, fail)?;
+    let mut out = SinkMem::new(alloc, &[])?;
+    let outcome = netmesh(rt, alloc, &mesh_words(alloc)?, &mut held, &mut out, &NoGate);
+    Ok((outcome.status(), out))
+}
+
+#[test]
+fn refusals_write_their_line(rt: HostRuntime) -> Result<(), Fail> {
+    let clockwise =
+        "splinecurves2dv2 1 points 1 0 0 2 0 1 3 1 0 segments 1 0 2 1 2 1 0 2 2 3 1 0 2 3 1";
+    let cases = [
+        (TRIANGLE, "rule", 12, "refused notyet 3\n"),
+        (clockwise, "", 12, "refused notyet 2\n"),
+        ("", "", 12, "refused notyet 2\n"),
+        ("-", "", 12, "refused notyet 2\n"),
+    ];
+    for (geometry, rules, status, line) in cases {
+        let (found, out) = answer(&rt, rt.alloc(), geometry, rules, &[])?;
+        assert_eq!(rt; found, status);
+        assert_eq!(rt; out.written(), line.as_bytes());
+    }
+    let (failed, out) = answer(&rt, rt.alloc(), TRIANGLE, "", &[3])?;
+    assert_eq!(rt; failed, 5);
+    assert_eq!(rt; out.written(), b"refused folder 1 l\n".as_slice());
+    Ok(())
+}
+
+#[test]
+fn a_failed_put_of_the_log_leaves_the_mesh_unput(rt: HostRuntime) -> Result<(), Fail> {
+    let alloc = rt.alloc();
+    let mut held = folder(alloc, TRIANGLE, "", &[3])?;
+    let mut out = SinkMem::new(alloc, &[])?;
+    let _outcome = netmesh(
+        &rt,
+        alloc,
+        &mesh_words(alloc)?,
+        &mut held,
+        &mut out,
+        &NoGate,
+    );
+    assert_eq!(rt; held.faults(), 1);
+    assert_eq!(rt; held.last(), "l");
+    assert_eq!(rt; held.get("m"), None);
+    Ok(())
+}
+
+#[test]
+fn an_answer_that_is_not_taken_leaves_what_was_put(rt: HostRuntime) -> Result<(), Fail> {
+    let alloc = rt.alloc();
+    let mut held = folder(alloc, TRIANGLE, "", &[])?;
+    let mut out = SinkMem::new(alloc, &[1])?;
+    let outcome = netmesh(
+        &rt,
+        alloc,
+        &mesh_words(alloc)?,
+        &mut held,
+        &mut out,
+        &NoGate,
+    );
+    assert_eq!(rt; outcome.status(), 6);
+    assert_eq!(rt; held.get("l"), Some(LOG.as_bytes()));
+    assert_eq!(rt; held.get("m"), Some(MESH.as_bytes()));
+    Ok(())
+}
+
+#[test]
+fn a_geometry_past_its_limit_or_absent_is_named(rt: HostRuntime) -> Result<(), Fail> {
+    let alloc = rt.alloc();
+    let names = [text(alloc, "g")?];
+    let spaces = vec![in alloc; b' '; 1_048_577]?;
+    let mut held = FolderMem::holding(alloc, &names, &[spaces], &[])?;
+    let mut out = SinkMem::new(alloc, &[])?;
+    let long = netmesh(
+        &rt,
+        alloc,
+        &mesh_words(alloc)?,
+        &mut held,
+        &mut out,
+        &NoGate,
+    );
+    let mut none = FolderMem::holding(alloc, &[], &[], &[])?;
+    let absent = netmesh(
+        &rt,
+        alloc,
+        &mesh_words(alloc)?,
+        &mut none,
+        &mut out,
+        &NoGate,
+    );
+    let unknown = netmesh(&rt, alloc, &[], &mut none, &mut out, &NoGate);
+    assert_eq!(rt;
+        (long.status(), absent.status(), unknown.status()),
+        (5, 5, 12)
+    );
+    assert_eq!(rt;
+        out.written(),
+        b"refused folder 2 g\nrefused folder 3 g\nrefused notyet 1\n".as_slice()
+    );
+    assert_eq!(rt; none.faults(), 0);
+    Ok(())
+}
+
+#[test]
+fn statuses_are_told_apart(rt: HostRuntime) {
+    assert_eq!(rt; Outcome::Done.status(), 0);
+    assert_eq!(rt; Outcome::Stopped.status(), 8);
+    assert_eq!(rt; Outcome::Bad.status(), 9);
+}
