@@ -5,3 +5,7 @@ pub mod Again
 pub mod Limits
 pub mod Completed
 pub mod Refused
+pub mod Lines
+pub mod Texts
+pub mod Printed
+pub mod Printable

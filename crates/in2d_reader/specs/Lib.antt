@@ -3,3 +3,4 @@ pub mod Refusals
 pub mod Steps
 pub mod Drafts
 pub mod Grammar
+pub mod Normal

@@ -7,6 +7,7 @@
 
 mod geometry;
 mod place;
+mod printing;
 mod reader;
 mod reading;
 mod refusal;
@@ -15,6 +16,7 @@ mod text;
 pub use geometry::{
     MaterialRow, MaterialRows, PointRow, PointRows, RawGeometry, SegmentRow, SegmentRows,
 };
+pub use printing::print_in2d;
 pub use reading::read_in2d;
 pub use refusal::In2dRefusal;
 pub use word_scan::{Dec, Name};

@@ -2,6 +2,7 @@
 
 ghost use Rattle.std.specs.Prelude.{◌≡◌, IfOk, IfErr, MatchResult};
 ghost use Rattle.word_scan.specs.Scan.{words_of};
+ghost use Rattle.in2d_reader.specs.Normal.{CanPrint};
 ghost use Rattle.in2d_reader.specs.Refusals.{Gives, Refuses};
 ghost use Rattle.in2d_reader.specs.Grammar.{Derives, Fits};
 ghost use Rattle.in2d_reader.specs.declared.geometry.RawGeometry.{RawGeometry};
@@ -17,6 +18,9 @@ use word_scan::{Scanner, Style};
 pub fn read_in2d(alloc: Global, bytes: &[u8]) -> Result<RawGeometry, In2dRefusal>
     // What is read is derived by the grammar, and within the limits, with known points.
     ensures found { IfOk result (λ raw. Derives (words_of bytes.now) raw × Fits raw) }
+
+    // It can be printed.
+    ensures printable { IfOk result CanPrint }
 
     // Each such text is read, unless memory runs out, and has no other value.
     ensures only { (raw : RawGeometry) → Derives (words_of bytes.now) raw → Fits raw → MatchResult result (λ read. read ≡ raw) (λ e. e ≡ In2dRefusal.Memory) }

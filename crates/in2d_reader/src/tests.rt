@@ -54,3 +54,17 @@ fn refusals(rt: HostRuntime) {
     let unknown = b"splinecurves2dv2 0 points 1 0 0 segments 1 0 2 1 1 1 0 2 1 2";
     assert!(rt; refusal(&rt, unknown) == Some(In2dRefusal::UnknownPoint { segment: 2 }));
 }
+
+#[test]
+fn normal_text(rt: HostRuntime) -> Result<(), Fail> {
+    let text =
+        b"splinecurves2dv2 +2e1\tpoints 1 255.0E+2 264e2 2 63e2 -138.0E+2 -maxh=-.05 segments\n1 0 2 1 2 -maxh=4046e-1 -bc=11 0 1 2 2 1 materials 1 m#1";
+    let normal =
+        b"splinecurves2dv2\n2e1\npoints\n1 2550e1 264e2\n2 63e2 -1380e1 -maxh=-0.05\nsegments\n1 0 2 1 2 -bc=11 -maxh=404.6\n0 1 2 2 1\nmaterials\n1 m#1\n";
+    let raw = read_in2d(rt.alloc(), text)
+        .ok()
+        .ok_or("the text is derived")?;
+    let printed = print_in2d(rt.alloc(), &raw)?;
+    assert_eq!(rt; printed.as_slice(), normal.as_slice());
+    Ok(())
+}

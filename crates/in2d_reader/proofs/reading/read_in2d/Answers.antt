@@ -1,5 +1,6 @@
 use Rattle.word_scan.specs.Scan.{words_of}
 use Rattle.in2d_reader.proofs.Refused.{is_found, is_only, is_refused}
+use Rattle.in2d_reader.proofs.Printable.{is_printable}
 use Rattle.in2d_reader.proofs.reading.read_in2d.Goals as goal
 
 pub returns-clause-found : goal.returns-clause-found
@@ -10,3 +11,6 @@ returns-clause-only c = is_only (words_of c.args.bytes.now) c.read_words.result 
 
 pub returns-clause-refused : goal.returns-clause-refused
 returns-clause-refused c = is_refused (words_of c.args.bytes.now) c.read_words.result c.read_words.ensures
+
+pub returns-clause-printable : goal.returns-clause-printable
+returns-clause-printable c = is_printable c.args.bytes.now c.read_words.result (is_found (words_of c.args.bytes.now) c.read_words.result c.read_words.ensures)
