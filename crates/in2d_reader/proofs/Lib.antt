@@ -1,1 +1,11 @@
-pub mod First
+pub mod Known
+pub mod Count
+pub mod Forward
+pub mod Again
+pub mod Limits
+pub mod Completed
+pub mod Refused
+pub mod Lines
+pub mod Texts
+pub mod Printed
+pub mod Printable

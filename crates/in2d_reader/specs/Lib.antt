@@ -1,2 +1,6 @@
 pub mod Words
-pub mod FirstForm
+pub mod Refusals
+pub mod Steps
+pub mod Drafts
+pub mod Grammar
+pub mod Normal

@@ -1,40 +1,70 @@
 use super::*;
 use std::test::*;
 
-const TRIANGLE: &[u8] =
-    b"splinecurves2dv2\n0.5\npoints\n1 1 +3\n2 0. 0\n3 1 +2\nsegments\n1 0 2 1 2\n1 0 2 2 3\n1 0 2 3 1\n";
-
 fn dec(digits: i128, scale: i32) -> Dec {
     Dec { digits, scale }
 }
 
 #[test]
-fn triangle(rt: HostRuntime) -> Result<(), Fail> {
-    let raw = read_in2d(rt.alloc(), TRIANGLE)
+fn flags_and_materials(rt: HostRuntime) -> Result<(), Fail> {
+    let text =
+        b"splinecurves2dv2 4 # grid\npoints\n24 -4e2 2e2 -maxh=1 -maxh=2.5 -Maxh=3\n27 0 0 -bc=x\nsegments\n1 0 2 24 27 -bc=7 -maxh=-1\n1 0 2 27 24\nmaterials 1 m#1 -maxh=1 64 points";
+    let raw = read_in2d(rt.alloc(), text)
         .ok()
-        .ok_or("the text is of the first form")?;
-    assert!(rt; raw.number == dec(5, -1));
-    let points = raw.points.as_slice();
-    assert_eq!(rt; points.len(), 3);
-    for (row, y) in points.iter().zip([dec(3, 0), dec(0, 0), dec(2, 0)]) {
-        assert!(rt; row.y == y);
-    }
-    let segments = raw.segments.as_slice();
-    assert_eq!(rt; segments.len(), 3);
-    for (row, q) in segments.iter().zip([2, 3, 1]) {
-        assert_eq!(rt; row.q, q);
-    }
-    assert!(rt; raw.materials.as_slice().is_empty());
+        .ok_or("the text is derived")?;
+    assert!(rt; raw.number == dec(4, 0));
+    let [a, b] = raw.points.as_slice() else {
+        return Err("there are two points".into());
+    };
+    assert!(rt; a.number == 24 && a.x == dec(-4, 2) && a.maxh == Some(dec(25, -1)));
+    assert!(rt; b.number == 27 && b.maxh == None);
+    let [first, second] = raw.segments.as_slice() else {
+        return Err("there are two segments".into());
+    };
+    assert!(rt; first.bc == Some(7) && first.maxh == Some(dec(-1, 0)));
+    assert!(rt; second.p == 27 && second.bc == None);
+    let [m, n] = raw.materials.as_slice() else {
+        return Err("there are two materials".into());
+    };
+    assert!(rt; m.domain == 1 && m.maxh == Some(dec(1, 0)));
+    assert_eq!(rt; m.name.as_slice(), b"m#1".as_slice());
+    assert_eq!(rt; n.name.as_slice(), b"points".as_slice());
     Ok(())
 }
 
+fn refusal(rt: &HostRuntime, text: &[u8]) -> Option<In2dRefusal> {
+    read_in2d(rt.alloc(), text).err()
+}
+
 #[test]
-fn other_forms(rt: HostRuntime) {
-    let materials =
-        b"splinecurves2dv2 1 points 1 0 0 2 1 0 3 0 1 segments 1 0 2 1 2 1 0 2 2 3 1 0 2 3 1 materials";
-    assert!(rt; matches!(read_in2d(rt.alloc(), materials), Err(In2dRefusal::NotYet)));
-    let curved =
-        b"splinecurves2dv2 1 points 1 0 0 2 1 0 3 0 1 segments 1 0 3 1 2 1 0 2 2 3 1 0 2 3 1";
-    assert!(rt; matches!(read_in2d(rt.alloc(), curved), Err(In2dRefusal::NotYet)));
-    assert!(rt; matches!(read_in2d(rt.alloc(), b""), Err(In2dRefusal::NotYet)));
+fn refusals(rt: HostRuntime) {
+    let syntax = |word: u64| Some(In2dRefusal::Syntax { word });
+    let number = |word: u64| Some(In2dRefusal::Number { word });
+    assert!(rt; refusal(&rt, b"") == syntax(1));
+    assert!(rt; refusal(&rt, b"splinecurves2dv2 0") == syntax(3));
+    assert!(rt; refusal(&rt, b"splinecurves2dv2 0 points -maxh=1") == syntax(4));
+    assert!(rt; refusal(&rt, b"splinecurves2dv2 0 points segments 65 0 2 1 1") == syntax(5));
+    assert!(rt; refusal(&rt, b"splinecurves2dv2 0 points segments 1 65 2 1 1") == number(6));
+    assert!(rt; refusal(&rt, b"splinecurves2dv2 0 points segments 1 0 02 1 1") == number(7));
+    assert!(rt; refusal(&rt, b"splinecurves2dv2 0 points 1 0 0 -maxh=x segments") == number(7));
+    let curved = b"splinecurves2dv2 0 points 1 0 0 segments 1 0 2 1 1 1 0 3 1 1 1";
+    assert!(rt; refusal(&rt, curved) == Some(In2dRefusal::Curved { segment: 2 }));
+    let twice = b"splinecurves2dv2 0 points 1 0 0 01 x";
+    assert!(rt; refusal(&rt, twice) == Some(In2dRefusal::NumberTwice { word: 7 }));
+    let unknown = b"splinecurves2dv2 0 points 1 0 0 segments 1 0 2 1 1 1 0 2 1 2";
+    assert!(rt; refusal(&rt, unknown) == Some(In2dRefusal::UnknownPoint { segment: 2 }));
+}
+
+#[test]
+fn normal_text(rt: HostRuntime) -> Result<(), Fail> {
+    let text =
+        b"splinecurves2dv2 +2e1\tpoints 1 255.0E+2 264e2 2 63e2 -138.0E+2 -maxh=-.05 segments\n1 0 2 1 2 -maxh=4046e-1 -bc=11 0 1 2 2 1 materials 1 m#1";
+    let normal =
+        b"splinecurves2dv2\n2e1\npoints\n1 2550e1 264e2\n2 63e2 -1380e1 -maxh=-0.05\nsegments\n1 0 2 1 2 -bc=11 -maxh=404.6\n0 1 2 2 1\nmaterials\n1 m#1\n";
+    let raw = read_in2d(rt.alloc(), text)
+        .ok()
+        .ok_or("the text is derived")?;
+    let printed = print_in2d(rt.alloc(), &raw)?;
+    assert_eq!(rt; printed.as_slice(), normal.as_slice());
+    Ok(())
 }
