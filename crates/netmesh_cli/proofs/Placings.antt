@@ -10,7 +10,7 @@ use Rattle.grid_geom.specs.Bounds.{IsWithin, IsOnGrid}
 use Rattle.grid_geom.specs.declared.TheConstants.{GRID}
 use Rattle.in2d_reader.specs.declared.geometry.PointRow.{PointRow}
 use Rattle.in2d_reader.specs.declared.geometry.RawGeometry.{RawGeometry}
-use Rattle.in2d_reader.specs.FirstForm.{IsFirstForm, Corners, geometry_of, side_of}
+use Rattle.first_form.specs.FirstForm.{IsFirstForm, Corners, geometry_of, side_of}
 use Rattle.geom_check.specs.declared.kinds.Segment.{Segment}
 use Rattle.geom_check.specs.declared.placing.Placed.{Placed}
 use Rattle.geom_check.specs.Shift.{magnitude_at, signed_as, FitsRow}

@@ -12,7 +12,7 @@ use Rattle.word_scan.specs.Decimals.{decimal_of, DecimalParts, IsDecimal, value,
 use Rattle.word_scan.proofs.DecimalLaws.{decimal_found}
 use Rattle.in2d_reader.specs.declared.geometry.PointRow.{PointRow}
 use Rattle.in2d_reader.specs.declared.geometry.RawGeometry.{RawGeometry}
-use Rattle.in2d_reader.specs.FirstForm.{IsFirstForm, IsFirstText, IsPoint, PointText, FirstText, Corners, geometry_of, side_of}
+use Rattle.first_form.specs.FirstForm.{IsFirstForm, IsFirstText, IsPoint, PointText, FirstText, Corners, geometry_of, side_of}
 use Rattle.geom_check.specs.Placed.{IsReadable, IsReadableNumber, IsReadablePoint, IsReadableSegment, IsReadableIfAny, row_in}
 
 signed_size : (minus : Bool) (n : ℕ) → unsigned_abs (signed minus n) ≡ n

@@ -6,7 +6,7 @@ use Rattle.grid_geom.specs.Winding.{wind}
 use Rattle.word_scan.specs.Scan.{words_of}
 use Rattle.in2d_reader.specs.declared.geometry.PointRow.{PointRow}
 use Rattle.in2d_reader.specs.declared.geometry.RawGeometry.{RawGeometry}
-use Rattle.in2d_reader.specs.FirstForm.{IsFirstForm, Corners, geometry_of}
+use Rattle.first_form.specs.FirstForm.{IsFirstForm, Corners, geometry_of}
 use Rattle.geom_check.specs.declared.kinds.Segment.{Segment}
 use Rattle.geom_check.specs.declared.placing.Placed.{Placed}
 use Rattle.geom_check.specs.declared.refusal.GeomRefusal.TheVariants.{TooLarge}

@@ -9,7 +9,7 @@ use Rattle.grid_geom.specs.Closed.{IsOff}
 use Rattle.word_scan.specs.Bytes.{is_white}
 use Rattle.word_scan.specs.Scan.{words_of}
 use Rattle.in2d_reader.specs.declared.geometry.RawGeometry.{RawGeometry}
-use Rattle.in2d_reader.specs.FirstForm.{IsFirstForm}
+use Rattle.first_form.specs.FirstForm.{IsFirstForm}
 use Rattle.geom_check.specs.declared.placing.Placed.{Placed}
 use Rattle.geom_check.specs.Boundary.{point_at, boundary, edges_of, IsSegmentOf}
 use Rattle.geom_check.specs.Placed.{IsPlaced}

@@ -2,7 +2,7 @@
 
 ghost use Rattle.std.specs.Prelude.{◌≡◌, IfOk, IfErr, OnOk, IsTrue, ◌↔◌, true, length, All};
 ghost use Rattle.grid_geom.specs.Bounds.{IsOnGrid};
-ghost use Rattle.in2d_reader.specs.FirstForm.{IsFirstForm};
+ghost use Rattle.first_form.specs.FirstForm.{IsFirstForm};
 ghost use Rattle.word_scan.specs.Scan.{words_of};
 ghost use Rattle.geom_check.specs.Placed.{IsReadable, IsPlaced};
 ghost use Rattle.mesh_run.specs.declared.End.TheVariants.{Stuck as StuckEnd};
@@ -12,7 +12,8 @@ ghost use Rattle.netmesh_cli.specs.Accepted.{IsTriangle, IsBlank, IsRunnable, Tu
 use super::Refusal;
 use geom_check::{GeomRefusal, Placed, place};
 use grid_geom::{LONGEST, Point, orient};
-use in2d_reader::{In2dRefusal, RawGeometry, read_in2d};
+use first_form::{FormRefusal, read_first_form};
+use in2d_reader::RawGeometry;
 use mesh_run::{Options, mesh_of, open_all, uncut};
 use run_log::{write_log, write_summary};
 use std::alloc::Global;
@@ -46,10 +47,10 @@ fn read_text(alloc: Global, bytes: &[u8]) -> Result<RawGeometry, Refusal>
     ensures only { (raw : RawGeometry) → IsFirstForm (words_of bytes.now) raw → IfOk result (λ read. read ≡ raw) }
     ensures refused { IfErr result (TextRefused 2 ((raw : RawGeometry) → ¬ IsFirstForm (words_of bytes.now) raw)) }
 {
-    match read_in2d(alloc, bytes) {
+    match read_first_form(alloc, bytes) {
         Ok(raw) => Ok(raw),
-        Err(In2dRefusal::Memory) => Err(Refusal::Memory),
-        Err(In2dRefusal::NotYet) => Err(Refusal::NotYet {
+        Err(FormRefusal::Memory) => Err(Refusal::Memory),
+        Err(FormRefusal::NotYet) => Err(Refusal::NotYet {
             part: GEOMETRY_PART,
         }),
     }
