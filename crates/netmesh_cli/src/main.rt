@@ -1,8 +1,11 @@
-//! netmesh: meshes planar geometries by rules, and says exactly why where it doesn't.
+//! Which mesh, log and line come of the files that the words name, and if none, why?
 //!
-//! 1. The words name the files. Each file is taken, read and checked before the next is taken.
+//! So far one triangle and a rule file without rules are meshed.
+//!
+//! 1. The words name the files. Each file is taken and read before the next is taken.
 //! 2. The log is put before the mesh, and the answer is written last.
-//! 3. A refusal has one cause, writes one line, and before the first put leaves the folder as it was.
+//! 3. A refusal has one cause, and before the first put it leaves the folder as it was. It writes one
+//!    line, but for an answer that isn't taken and for want of memory.
 //! 4. The work between takes and puts is done on values, so what is put is a function of what is held.
 #![tactic(auto)]
 

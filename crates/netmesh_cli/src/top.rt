@@ -32,9 +32,10 @@ fn tell<O: Sink>(alloc: Global, out: &mut O, refusal: Refusal) -> Refusal
 /// Runs the program on its words. `mesh GEOMETRY RULES MESH LOG` meshes the geometry by the rules,
 /// puts the log and then the mesh, and writes a summary line.
 ///
-/// Refused are words in another form, a file that isn't there, is too long or can't be taken or put,
-/// and a geometry or rules of a form that is not built yet. A refusal writes its line. Where memory is
-/// refused the outcome says so, and no clause says when it may be.
+/// Refused are words in another form; a file that isn't there, is too long or can't be taken or put; a
+/// geometry other than one triangle without flags and materials, whose coordinates fit the grid and
+/// which turns to the left; and rules other than white space. A refusal writes its line. Where memory
+/// is refused the outcome says so, and no clause says when it may be.
 pub fn netmesh<R: Threads + Sync, F: Folder, O: Sink, G: Gate + Sync>(
     _rt: &R,
     alloc: Global,
