@@ -7,8 +7,8 @@ ghost use Rattle.in2d_reader.specs.declared.geometry.RawGeometry.{RawGeometry};
 ghost use Rattle.first_form.specs.Words.{texts};
 ghost use Rattle.first_form.specs.FirstForm.{word_at, fixed_at, decimal_at, whole_at, point_at, side_at, corners_at, sides_at, corners_of, ended, corners_in, side_of, geometry_of, IsFirstForm, Gives};
 
-use in2d_reader::{MaterialRows, PointRow, PointRows, RawGeometry, SegmentRow, SegmentRows};
 use crate::words::words;
+use in2d_reader::{MaterialRows, PointRow, PointRows, RawGeometry, SegmentRow, SegmentRows};
 use std::alloc::{AllocError, AllocFailed, Global};
 use word_scan::{Dec, decimal, whole};
 

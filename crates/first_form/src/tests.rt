@@ -1,6 +1,6 @@
 use crate::{FormRefusal, read_first_form};
-use word_scan::Dec;
 use std::test::*;
+use word_scan::Dec;
 
 const TRIANGLE: &[u8] =
     b"splinecurves2dv2\n0.5\npoints\n1 1 +3\n2 0. 0\n3 1 +2\nsegments\n1 0 2 1 2\n1 0 2 2 3\n1 0 2 3 1\n";
@@ -33,9 +33,19 @@ fn triangle(rt: HostRuntime) -> Result<(), Fail> {
 fn other_forms(rt: HostRuntime) {
     let materials =
         b"splinecurves2dv2 1 points 1 0 0 2 1 0 3 0 1 segments 1 0 2 1 2 1 0 2 2 3 1 0 2 3 1 materials";
-    assert!(rt; matches!(read_first_form(rt.alloc(), materials), Err(FormRefusal::NotYet)));
+    assert!(rt;
+        matches!(
+            read_first_form(rt.alloc(), materials),
+            Err(FormRefusal::NotYet)
+        )
+    );
     let curved =
         b"splinecurves2dv2 1 points 1 0 0 2 1 0 3 0 1 segments 1 0 3 1 2 1 0 2 2 3 1 0 2 3 1";
-    assert!(rt; matches!(read_first_form(rt.alloc(), curved), Err(FormRefusal::NotYet)));
+    assert!(rt;
+        matches!(
+            read_first_form(rt.alloc(), curved),
+            Err(FormRefusal::NotYet)
+        )
+    );
     assert!(rt; matches!(read_first_form(rt.alloc(), b""), Err(FormRefusal::NotYet)));
 }

@@ -10,9 +10,9 @@ ghost use Rattle.netmesh_cli.specs.Causes.{TextRefused, IsMemory};
 ghost use Rattle.netmesh_cli.specs.Accepted.{IsTriangle, IsBlank, IsRunnable, TurnsLeft, IsCovered, run_of, log_of, mesh_of as mesh_text_of, line_of};
 
 use super::Refusal;
+use first_form::{FormRefusal, read_first_form};
 use geom_check::{GeomRefusal, Placed, place};
 use grid_geom::{LONGEST, Point, orient};
-use first_form::{FormRefusal, read_first_form};
 use in2d_reader::RawGeometry;
 use mesh_run::{Options, mesh_of, open_all, uncut};
 use run_log::{write_log, write_summary};
