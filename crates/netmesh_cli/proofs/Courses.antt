@@ -1,15 +1,16 @@
 -- From how far a call of `mesh` came to the cause of its refusal, and to what stands after it.
-use Rattle.std.proofs.Common.{◌≡◌, ℕ, List, sym, subst}
+use Rattle.std.proofs.Common.{◌≡◌, ◌≢◌, ℕ, List, ◌⊎◌, inl, inr, sym, subst, refl, ap, ◌∙◌, Bool, true, false, cond, rules, arith}
 use Rattle.std.specs.Prelude.{Option, None, Some}
 use Rattle.folder_io.specs.Causes.{Told, ToldBoth}
-use Rattle.folder_io.specs.Names.{Files}
+use Rattle.folder_io.specs.Names.{Files, held_at, SameBut}
 use Rattle.netmesh_cli.specs.declared.outcome.Refusal.{Refusal}
 use Rattle.netmesh_cli.specs.declared.outcome.Refusal.TheVariants.{Folder, Out, Memory, NotYet}
 use Rattle.netmesh_cli.specs.Words.{MeshNames}
-use Rattle.netmesh_cli.specs.Causes.{IsFolderFault, PutRefused, AnswerRefused}
-use Rattle.netmesh_cli.specs.Accepted.{RefusesGeometry, RefusesRules, HoldsSomeGeometry, IsSomeAccepted}
-use Rattle.netmesh_cli.specs.Course.{FileRefused, Course, at_geometry, at_rules, at_work, at_log, at_mesh, at_answer, StopsAtLog, StopsAtMesh, HasBoth}
-use Rattle.netmesh_cli.specs.Stands.{RefusalCause, FolderCause, of_geometry, of_rules, of_log, of_mesh, of_the_geometry, of_the_rules}
+use Rattle.netmesh_cli.specs.Causes.{IsFolderFault, call_failed, PutRefused, AnswerRefused}
+use Rattle.geom_check.specs.declared.placing.Placed.{Placed}
+use Rattle.netmesh_cli.specs.Accepted.{IsAccepted, RefusesGeometry, RefusesRules, HoldsSomeGeometry, IsSomeAccepted, log_of}
+use Rattle.netmesh_cli.specs.Course.{FileRefused, Course, at_geometry, at_rules, at_work, at_log, at_mesh, at_answer, StopsAtLog, StopsAtMesh, HasBoth, with_log, with_both}
+use Rattle.netmesh_cli.specs.Stands.{RefusalCause, FolderCause, of_geometry, of_rules, of_log, of_mesh, NotYetCause, of_the_geometry, of_the_rules, HasLog, FolderStands, RefusalStands, Keeps}
 
 -- what both tell meets P where it stayed as it was and P holds of anything beside itself
 pub told_as_before : (before after : Option Files) (P : Files → Files → Type 0) → after ≡ before → ((files : Files) → P files files) → ToldBoth before after P

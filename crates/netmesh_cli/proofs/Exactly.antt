@@ -1,18 +1,20 @@
 -- Which answers may come of files that are told: an answer that has its cause is the only one where the causes of the others don't hold.
-use Rattle.std.proofs.Common.{◌≡◌, ℕ, ◌<◌, List, length, sym, subst, ◌∙◌, arith}
+use Rattle.std.proofs.Common.{◌≡◌, ◌≢◌, ℕ, ◌≤◌, ◌<◌, ◌⊎◌, List, length, sym, subst, refl, ◌∙◌, arith}
 use Rattle.std.specs.Prelude.{Option, None, Some, MatchOption}
 use Rattle.folder_io.specs.Causes.{Rose, Told, ToldBoth}
-use Rattle.folder_io.specs.Names.{Files}
+use Rattle.folder_io.specs.Names.{Files, held_at}
+use Rattle.netmesh_cli.specs.declared.outcome.Outcome.{Outcome}
 use Rattle.netmesh_cli.specs.declared.outcome.Outcome.TheVariants.{Stuck, Refused}
 use Rattle.netmesh_cli.specs.declared.outcome.Refusal.{Refusal}
 use Rattle.netmesh_cli.specs.declared.outcome.Refusal.TheVariants.{Folder, Out, Memory, NotYet}
+use Rattle.geom_check.specs.declared.placing.Placed.{Placed}
 use Rattle.netmesh_cli.specs.declared.TheConstants.{FILE_LIMIT}
 use Rattle.netmesh_cli.specs.Words.{MeshNames}
-use Rattle.netmesh_cli.specs.Causes.{Holds, IsMemory, IsFolderFault, call_failed, too_long, missing}
-use Rattle.netmesh_cli.specs.Accepted.{IsTriangle, IsBlank, HoldsRules, RefusesGeometry, RefusesRules, HoldsSomeGeometry, IsSomeAccepted}
+use Rattle.netmesh_cli.specs.Causes.{Holds, IsTooLong, IsMemory, IsFolderFault, call_failed, too_long, missing}
+use Rattle.netmesh_cli.specs.Accepted.{IsTriangle, IsBlank, IsAccepted, HoldsGeometry, HoldsRules, RefusesGeometry, RefusesRules, HoldsSomeGeometry, IsSomeAccepted}
 use Rattle.netmesh_cli.specs.Course.{IsMeshed}
 use Rattle.netmesh_cli.specs.Stands.{RefusalCause, FolderCause, of_geometry, of_rules, of_log, of_mesh, NotYetCause, of_the_geometry, of_the_rules}
-use Rattle.netmesh_cli.specs.Top.{IsNotYetOrFolder, MeshExactly}
+use Rattle.netmesh_cli.specs.Top.{IsRefusedAnd, IsNotYetOrFolder, IsStuckOrMemory, MeshExactly}
 
 -- under one name one file is held
 held_once : (files : Files) (name first second : List ℕ) → Holds files name first → Holds files name second → first ≡ second

@@ -1,18 +1,18 @@
 -- Where each exit of `mesh` leaves a call, from what the calls before it ensured.
-use Rattle.std.proofs.Common.{◌≡◌, ℕ, ◌≤◌, ◌++◌, List, subst, refl, ap, ◌∙◌}
+use Rattle.std.proofs.Common.{◌≡◌, ◌≢◌, ℕ, ◌≤◌, ◌++◌, List, sym, subst, refl, ap, ◌∙◌, arith}
 use Rattle.std.specs.Prelude.{Option, None, Some}
 use Rattle.std.specs.FinMap as finite
 use Rattle.folder_io.specs.Causes.{Rose, Told, ToldBoth}
 use Rattle.folder_io.proofs.Counts.{rose_from_earlier}
-use Rattle.folder_io.specs.Names.{Files, SameBut}
+use Rattle.folder_io.specs.Names.{Files, held_at, SameBut}
 use Rattle.netmesh_cli.specs.declared.outcome.Refusal.{Refusal}
 use Rattle.netmesh_cli.specs.declared.outcome.Refusal.TheVariants.{Folder, Out, Memory, NotYet}
 use Rattle.geom_check.specs.declared.placing.Placed.{Placed}
 use Rattle.mesh_run.specs.declared.End.TheVariants.{Stuck}
 use Rattle.netmesh_cli.specs.Words.{MeshNames}
 use Rattle.netmesh_cli.specs.Causes.{IsMemory, IsFolderFault, call_failed, too_long, missing, PutRefused, AnswerRefused, AnswerLeaves}
-use Rattle.netmesh_cli.specs.Accepted.{IsAccepted, HoldsGeometry, HoldsRules, RefusesRules, run_of, log_of, mesh_of, line_of, IsCovered}
-use Rattle.netmesh_cli.specs.Course.{FileRefused, Course, at_rules, at_work, at_log, at_mesh, at_answer, StopsAtLog, StopsAtMesh, HasBoth, IsMeshed, WrittenByMesh, with_log, with_both}
+use Rattle.netmesh_cli.specs.Accepted.{IsAccepted, HoldsGeometry, HoldsRules, RefusesGeometry, RefusesRules, HoldsSomeGeometry, IsSomeAccepted, run_of, log_of, mesh_of, line_of, IsCovered}
+use Rattle.netmesh_cli.specs.Course.{FileRefused, Course, at_geometry, at_rules, at_work, at_log, at_mesh, at_answer, StopsAtLog, StopsAtMesh, HasBoth, IsMeshed, WrittenByMesh, with_log, with_both}
 use Rattle.netmesh_cli.proofs.Courses.{told_both_weaker}
 
 pub told_weaker : (held : Option Files) (P Q : Files → Type 0) → ((files : Files) → P files → Q files) → Told held P → Told held Q

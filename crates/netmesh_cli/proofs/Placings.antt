@@ -1,19 +1,21 @@
 -- What moving a triangle to the grid gives.
-use Rattle.std.proofs.Common.{◌≡◌, ◌≢◌, ℕ, ◌+◌, ◌*◌, ◌≤◌, List, [], ◌∷◌, length, sym, subst, refl, ap, ◌∙◌, arith}
+use Rattle.std.proofs.Common.{◌≡◌, ◌≢◌, ℕ, ◌+◌, ◌*◌, ◌<◌, ◌≤◌, ◌^◌, Bool, true, false, List, [], ◌∷◌, ◌++◌, length, map, sym, subst, refl, ap, ◌∙◌, arith, rules}
 use mathlib.Core.Path.{Path}
-use Rattle.std.specs.Prelude.{All, ℤ, pos, negsuc}
+use Rattle.std.specs.Prelude.{Option, None, Some, IsSome, All, unsigned_abs, ℤ, pos, negsuc, neg_ℤ, ◌≤ℤ◌, nat_eq}
 use Rattle.std.proofs.lemmas.Int.{ints}
+use Rattle.std.proofs.lemmas.List.{length-map}
 use Rattle.std.proofs.lemmas.List.Elements.{All-map}
 use Rattle.std.proofs.lemmas.Bool.{eq-eqb, ne_eqb}
+use Rattle.word_scan.specs.declared.decimals.Dec.{Dec}
 use Rattle.grid_geom.specs.declared.Point.{Point}
 use Rattle.grid_geom.specs.Bounds.{IsWithin, IsOnGrid}
 use Rattle.grid_geom.specs.declared.TheConstants.{GRID}
 use Rattle.in2d_reader.specs.declared.geometry.PointRow.{PointRow}
 use Rattle.in2d_reader.specs.declared.geometry.RawGeometry.{RawGeometry}
-use Rattle.in2d_reader.specs.FirstForm.{IsFirstForm, Corners, geometry_of, side_of}
+use Rattle.in2d_reader.specs.FirstForm.{IsFirstForm, IsFirstText, Corners, geometry_of, side_of}
 use Rattle.geom_check.specs.declared.kinds.Segment.{Segment}
 use Rattle.geom_check.specs.declared.placing.Placed.{Placed}
-use Rattle.geom_check.specs.Shift.{magnitude_at, signed_as, FitsRow}
+use Rattle.geom_check.specs.Shift.{magnitude_at, signed_as, grid_at, FitsAt, FitsRow, IsShift}
 use Rattle.geom_check.specs.Boundary.{IsSegmentOf}
 use Rattle.geom_check.specs.Placed.{IsPlaced, place_of, points_of, segment_of, segments_of, row_of}
 use Rattle.geom_check.proofs.Shifts.{one_shift}

@@ -1,5 +1,5 @@
 -- What a refusal says, from how it was made.
-use Rattle.std.proofs.Common.{ℕ, List, Option, ◌⊎◌, inl, inr, sym, subst}
+use Rattle.std.proofs.Common.{◌≡◌, ℕ, List, Option, ◌⊎◌, inl, inr, sym, subst}
 use Rattle.folder_io.specs.Names.{Files}
 use Rattle.netmesh_cli.specs.declared.outcome.Refusal.{Refusal}
 use Rattle.netmesh_cli.specs.declared.outcome.Refusal.TheVariants.{Folder, Out, Memory, NotYet}

@@ -1,14 +1,16 @@
 -- What is held after a refused call of `mesh`, from how far it came.
-use Rattle.std.proofs.Common.{◌≡◌, ◌≢◌, ℕ, List, ◌⊎◌, inl, inr, sym, refl, ap, ◌∙◌}
-use Rattle.std.specs.Prelude.{Option}
-use Rattle.folder_io.specs.Causes.{ToldBoth}
-use Rattle.folder_io.specs.Names.{Files, held_at}
+use Rattle.std.proofs.Common.{◌≡◌, ◌≢◌, ℕ, List, ◌⊎◌, inl, inr, sym, subst, refl, ap, ◌∙◌, rules, arith}
+use Rattle.std.specs.Prelude.{Option, None, Some}
+use Rattle.std.specs.FinMap as finite
+use Rattle.folder_io.specs.Causes.{Told, ToldBoth}
+use Rattle.folder_io.specs.Names.{Files, held_at, SameBut}
 use Rattle.netmesh_cli.specs.declared.outcome.Refusal.{Refusal}
 use Rattle.netmesh_cli.specs.declared.outcome.Refusal.TheVariants.{Folder, Out, Memory, NotYet}
 use Rattle.netmesh_cli.specs.Words.{MeshNames}
-use Rattle.netmesh_cli.specs.Causes.{PutRefused, AnswerRefused}
-use Rattle.netmesh_cli.specs.Accepted.{log_of}
-use Rattle.netmesh_cli.specs.Course.{FileRefused, Course, at_geometry, at_rules, at_work, at_log, at_mesh, at_answer, StopsAtLog, StopsAtMesh, HasBoth, with_log}
+use Rattle.netmesh_cli.specs.Causes.{IsFolderFault, PutRefused, AnswerRefused}
+use Rattle.geom_check.specs.declared.placing.Placed.{Placed}
+use Rattle.netmesh_cli.specs.Accepted.{IsAccepted, IsSomeAccepted, log_of}
+use Rattle.netmesh_cli.specs.Course.{FileRefused, Course, at_geometry, at_rules, at_work, at_log, at_mesh, at_answer, StopsAtLog, StopsAtMesh, HasBoth, with_log, with_both}
 use Rattle.netmesh_cli.specs.Stands.{HasLog, FolderStands, RefusalStands, Keeps}
 use Rattle.folder_io.proofs.Tables.{held_inserted, same_but_inserted}
 use Rattle.netmesh_cli.proofs.Courses.{told_as_before, told_both_weaker}

@@ -1,18 +1,22 @@
 -- From how a call of `mesh` went, and how its refusal was told, to what the top call promises.
-use Rattle.std.proofs.Common.{◌≡◌, ℕ, ◌≤◌, ◌⊎◌, inl, inr, ◌++◌, List, sym, subst, ◌∙◌}
+use Rattle.std.proofs.Common.{◌≡◌, ◌≢◌, ℕ, ◌≤◌, ◌<◌, ◌⊎◌, inl, inr, ◌++◌, List, length, sym, subst, refl, ap, ◌∙◌, arith, rules}
 use mathlib.Core.Path.{Path}
-use Rattle.std.specs.Prelude.{Option}
+use Rattle.std.specs.Prelude.{Option, None, Some, MatchOption}
 use Rattle.folder_io.specs.Causes.{Rose, Told, ToldBoth, GrowsByPrefix}
 use Rattle.folder_io.proofs.Counts.{rose_from_earlier, rose_until_later}
-use Rattle.folder_io.specs.Names.{Files}
-use Rattle.netmesh_cli.specs.declared.outcome.Outcome.TheVariants.{Stuck, Refused}
+use Rattle.folder_io.specs.Names.{Files, held_at, SameBut}
+use Rattle.netmesh_cli.specs.declared.outcome.Outcome.{Outcome}
+use Rattle.netmesh_cli.specs.declared.outcome.Outcome.TheVariants.{Done, Stuck, Stopped, Good, Bad, Shown, Refused}
 use Rattle.netmesh_cli.specs.declared.outcome.Refusal.{Refusal}
 use Rattle.netmesh_cli.specs.declared.outcome.Refusal.TheVariants.{Folder, Out, Memory, NotYet}
-use Rattle.netmesh_cli.specs.Words.{MeshNames, IsMeshForm, AreUsable}
-use Rattle.netmesh_cli.specs.Course.{Course, IsMeshed, IsSummary, WrittenByMesh}
-use Rattle.netmesh_cli.specs.Stands.{RefusalCause, RefusalStands, Keeps}
+use Rattle.geom_check.specs.declared.placing.Placed.{Placed}
+use Rattle.netmesh_cli.specs.Words.{MeshNames, IsMeshForm, IsUnknown, AreUsable}
+use Rattle.netmesh_cli.specs.Causes.{Holds, IsTooLong, IsMemory, IsFolderFault, call_failed, too_long, missing}
+use Rattle.netmesh_cli.specs.Accepted.{IsTriangle, IsBlank, IsAccepted, HoldsGeometry, HoldsRules, RefusesGeometry, RefusesRules, HoldsSomeGeometry, IsSomeAccepted}
+use Rattle.netmesh_cli.specs.Course.{Course, HasBoth, IsMeshed, IsSummary, WrittenByMesh}
+use Rattle.netmesh_cli.specs.Stands.{RefusalCause, FolderCause, of_geometry, of_rules, of_log, of_mesh, NotYetCause, of_the_geometry, of_the_rules, HasLog, FolderStands, RefusalStands, Keeps}
 use Rattle.netmesh_cli.specs.Lines.{refusal_line}
-use Rattle.netmesh_cli.specs.Top.{WritesLine, MeshAnswer, MeshExactly, HasLine, Telling, no_line, line_told, no_memory}
+use Rattle.netmesh_cli.specs.Top.{OnStuck, IfRefused, IsRefusedAnd, IsStuckOrRefused, IsNotYet, IsNotYetOrMemory, IsNotYetOrFolder, IsStuckOrMemory, WritesLine, WordsAnswer, MeshAnswer, MeshExactly, HasLine, Telling, no_line, line_told, no_memory}
 use Rattle.netmesh_cli.proofs.Courses.{cause_of, told_both_weaker}
 use Rattle.netmesh_cli.proofs.Exactly.{refused_exactly, stuck_exactly}
 use Rattle.netmesh_cli.proofs.Standing.{keeps_of, stands_of, keeps_both}

@@ -1,16 +1,18 @@
 -- What a text of the first form says of the geometry that it writes.
-use Rattle.std.proofs.Common.{◌≡◌, ◌≢◌, ℕ, ◌<◌, ◌≤◌, ◌^◌, Bool, true, false, List, [], ◌∷◌, ◌++◌, length, sym, subst, refl, arith, rules, length-append}
-use Rattle.std.specs.Prelude.{Some, IsSome, All, unsigned_abs, ℤ, pos, negsuc, ◌≤ℤ◌}
+use Rattle.std.proofs.Common.{◌≡◌, ◌≢◌, ℕ, ◌+◌, ◌<◌, ◌≤◌, ◌^◌, Bool, true, false, List, [], ◌∷◌, ◌++◌, length, sym, subst, refl, ap, ◌∙◌, arith, rules, length-append}
+use Rattle.std.specs.Prelude.{Option, None, Some, IsSome, All, unsigned_abs, ℤ, pos, negsuc, neg_ℤ, ◌-ℤ◌, ◌≤ℤ◌, nat_eq}
 use Rattle.std.proofs.lemmas.Int.{ints}
 use Rattle.std.proofs.lemmas.Bool.{eq-eqb, ne_eqb}
 use Rattle.std.specs.Str.{all_ascii_digits}
 use Rattle.std.specs.Str.Parse.{AllDigits, digits_value}
+use Rattle.std.specs.List.{position_from}
 use Rattle.std.proofs.lemmas.Str.Parse.{IsNumeralModel, digits_value_short, tells_all_ascii_digits, tells_digits}
 use Rattle.word_scan.specs.declared.decimals.Dec.{Dec}
 use Rattle.word_scan.specs.Numerals.{value_of}
-use Rattle.word_scan.specs.Decimals.{decimal_of, DecimalParts, IsDecimal, value, signed, is_minus, fraction_digits}
+use Rattle.word_scan.specs.Decimals.{decimal_of, DecimalParts, IsDecimal, value, signed, is_minus, power_value, fraction_digits}
 use Rattle.word_scan.proofs.DecimalLaws.{decimal_found}
 use Rattle.in2d_reader.specs.declared.geometry.PointRow.{PointRow}
+use Rattle.in2d_reader.specs.declared.geometry.SegmentRow.{SegmentRow}
 use Rattle.in2d_reader.specs.declared.geometry.RawGeometry.{RawGeometry}
 use Rattle.in2d_reader.specs.FirstForm.{IsFirstForm, IsFirstText, IsPoint, PointText, FirstText, Corners, geometry_of, side_of}
 use Rattle.geom_check.specs.Placed.{IsReadable, IsReadableNumber, IsReadablePoint, IsReadableSegment, IsReadableIfAny, row_in}

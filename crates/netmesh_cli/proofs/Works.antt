@@ -1,7 +1,8 @@
 -- What the work between takes and puts gives.
-use Rattle.std.proofs.Common.{◌≡◌, ℕ, ◌<◌, ◌^◌, List, sym, subst, refl, ap, ◌∙◌, arith}
-use Rattle.std.specs.Prelude.{All, None, ℤ, pos}
+use Rattle.std.proofs.Common.{◌≡◌, ℕ, ◌<◌, ◌≤◌, ◌^◌, List, [], ◌∷◌, length, map, sym, subst, refl, ap, ◌∙◌, arith, rules}
+use Rattle.std.specs.Prelude.{All, None, ℤ, pos, negsuc, ◌≤ℤ◌, slice_index_or}
 use Rattle.std.proofs.lemmas.List.Elements.{All-map}
+use Rattle.grid_geom.specs.declared.RatPoint.{RatPoint}
 use Rattle.grid_geom.specs.Winding.{wind}
 use Rattle.word_scan.specs.Scan.{words_of}
 use Rattle.in2d_reader.specs.declared.geometry.PointRow.{PointRow}
@@ -9,20 +10,24 @@ use Rattle.in2d_reader.specs.declared.geometry.RawGeometry.{RawGeometry}
 use Rattle.in2d_reader.specs.FirstForm.{IsFirstForm, Corners, geometry_of}
 use Rattle.geom_check.specs.declared.kinds.Segment.{Segment}
 use Rattle.geom_check.specs.declared.placing.Placed.{Placed}
+use Rattle.geom_check.specs.declared.refusal.GeomRefusal.{GeomRefusal}
 use Rattle.geom_check.specs.declared.refusal.GeomRefusal.TheVariants.{TooLarge}
-use Rattle.geom_check.specs.Boundary.{IsSegmentOf}
-use Rattle.geom_check.specs.Refused.{IsPlaceRefusal}
+use Rattle.geom_check.specs.Shift.{FitsRow}
+use Rattle.geom_check.specs.Boundary.{boundary, IsSegmentOf}
+use Rattle.geom_check.specs.Refused.{IsFirstFailing, IsPlaceRefusal}
 use Rattle.geom_check.specs.Placed.{IsPlaced, segments_of}
+use Rattle.vol_format.specs.Vol.{IsShift}
 use Rattle.mesh_run.specs.declared.End.TheVariants.{Stuck}
 use Rattle.mesh_run.specs.Boundary.{whole_pieces}
-use Rattle.mesh_run.specs.Opening.{unmeshed_run}
+use Rattle.mesh_run.specs.Opening.{front_edges, unmeshed_run}
 use Rattle.mesh_run.specs.Whole.{unmeshed_whole, domain_numbers}
 use Rattle.mesh_run.proofs.Bounded.{front_is_boundary, whole_boundary}
 use Rattle.netmesh_cli.specs.declared.outcome.Refusal.{Refusal}
 use Rattle.netmesh_cli.specs.declared.outcome.Refusal.TheVariants.{Folder, Out, Memory, NotYet}
 use Rattle.netmesh_cli.specs.Causes.{TextRefused}
 use Rattle.netmesh_cli.specs.Accepted.{IsTriangle, IsRunnable, TurnsLeft, plain_options, run_of, IsWound, IsCovered}
-use Rattle.netmesh_cli.proofs.Placings.{placed_three, placed_once}
+use Rattle.netmesh_cli.proofs.Triangles.{first_form_readable}
+use Rattle.netmesh_cli.proofs.Placings.{IsThree, placed_three, placed_once}
 
 -- some row, to stand past the end of a list
 some_row : PointRow

@@ -1,5 +1,5 @@
 -- Which files the program meshes, and what it makes of them.
-use Rattle.std.specs.Prelude.{◌≡◌, ℕ, pos, ◌<ℤ◌, ◌<◌, ◌^◌, true, List, length, None, All}
+use Rattle.std.specs.Prelude.{◌≡◌, ℕ, ◌≤◌, ℤ, pos, negsuc, ◌<ℤ◌, ◌<◌, ◌^◌, true, List, [], length, Option, Some, None, All}
 use Rattle.grid_geom.specs.declared.Point.{Point}
 use Rattle.grid_geom.specs.declared.RatPoint.{RatPoint}
 use Rattle.grid_geom.specs.declared.TheConstants.{LONGEST}
@@ -13,6 +13,7 @@ use Rattle.in2d_reader.specs.FirstForm.{IsFirstForm}
 use Rattle.geom_check.specs.declared.placing.Placed.{Placed}
 use Rattle.geom_check.specs.Boundary.{point_at, boundary, edges_of, IsSegmentOf}
 use Rattle.geom_check.specs.Placed.{IsPlaced}
+use Rattle.mesh_run.specs.declared.End.TheVariants.{Stuck}
 use Rattle.mesh_run.specs.declared.Options.{Options}
 use Rattle.mesh_run.specs.declared.WholeRun.{WholeRun}
 use Rattle.mesh_run.specs.declared.domain_run.DomainRun.{DomainRun}
@@ -23,7 +24,7 @@ use Rattle.mesh_run.specs.Mesh.{mesh_of_run}
 use Rattle.vol_format.specs.Vol.{vol_text, IsShift}
 use Rattle.run_log.specs.Log.{log_text}
 use Rattle.run_log.specs.Summary.{summary_line}
-use Rattle.folder_io.specs.Names.{Files}
+use Rattle.folder_io.specs.Names.{Files, held_at}
 use Rattle.netmesh_cli.specs.Words.{MeshNames}
 use Rattle.netmesh_cli.specs.Causes.{Holds}
 

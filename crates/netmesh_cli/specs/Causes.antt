@@ -1,6 +1,7 @@
 -- Why a file is refused, and what a refusal's cause is.
-use Rattle.std.specs.Prelude.{◌≡◌, ℕ, ◌≤◌, ◌<◌, List, length, Option, None, Some, MatchOption}
-use Rattle.folder_io.specs.Causes.{Told, ToldBoth, GrowsByPrefix}
+use Rattle.std.specs.Prelude.{◌≡◌, ◌≢◌, ℕ, ◌≤◌, ◌<◌, ◌⊎◌, List, length, Option, None, Some, MatchOption}
+use Rattle.word_scan.specs.declared.Name.{Name}
+use Rattle.folder_io.specs.Causes.{Rose, Told, ToldBoth, GrowsByPrefix}
 use Rattle.folder_io.specs.Names.{Files, held_at}
 use Rattle.netmesh_cli.specs.declared.outcome.Refusal.{Refusal}
 use Rattle.netmesh_cli.specs.declared.outcome.Refusal.TheVariants.{Folder, Out, Memory, NotYet}

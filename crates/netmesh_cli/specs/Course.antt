@@ -1,15 +1,15 @@
 -- How far a call of `mesh` came that was refused, and what stood then.
-use Rattle.std.specs.Prelude.{◌≡◌, ℕ, List, Option, ◌++◌}
+use Rattle.std.specs.Prelude.{◌≡◌, ◌≢◌, ℕ, List, Option, ◌++◌}
 use Rattle.std.specs.FinMap as finite
 use Rattle.folder_io.specs.Causes.{Told, ToldBoth, GrowsByPrefix}
-use Rattle.folder_io.specs.Names.{Files, SameBut}
+use Rattle.folder_io.specs.Names.{Files, held_at, SameBut}
 use Rattle.netmesh_cli.specs.declared.outcome.Refusal.{Refusal}
 use Rattle.netmesh_cli.specs.declared.outcome.Refusal.TheVariants.{Folder, Out, Memory, NotYet}
 use Rattle.mesh_run.specs.declared.End.TheVariants.{Stuck}
 use Rattle.netmesh_cli.specs.Words.{MeshNames}
-use Rattle.netmesh_cli.specs.Causes.{IsFolderFault, PutRefused, AnswerRefused}
+use Rattle.netmesh_cli.specs.Causes.{Holds, IsFolderFault, PutRefused, AnswerRefused}
 use Rattle.geom_check.specs.declared.placing.Placed.{Placed}
-use Rattle.netmesh_cli.specs.Accepted.{IsAccepted, RefusesGeometry, RefusesRules, HoldsSomeGeometry, IsSomeAccepted, run_of, log_of, mesh_of, line_of, IsCovered}
+use Rattle.netmesh_cli.specs.Accepted.{IsAccepted, HoldsGeometry, RefusesGeometry, RefusesRules, HoldsSomeGeometry, IsSomeAccepted, run_of, log_of, mesh_of, line_of, IsCovered}
 
 -- why a file that is taken is refused: by the folder, or by what its text is not
 abbrev pub FileRefused : Option Files → List ℕ → Type 0 → ℕ → (Files → Type 0) → Refusal → Type 0

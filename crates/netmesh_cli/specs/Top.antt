@@ -1,12 +1,12 @@
 -- What the top call promises.
-use Rattle.std.specs.Prelude.{◌≡◌, ℕ, List, Option, ◌⊎◌, ◌++◌}
-use Rattle.folder_io.specs.Causes.{ToldBoth, GrowsByPrefix}
-use Rattle.folder_io.specs.Names.{Files}
+use Rattle.std.specs.Prelude.{◌≡◌, ◌≢◌, ℕ, List, Option, ◌⊎◌, ◌++◌}
+use Rattle.folder_io.specs.Causes.{Rose, Told, ToldBoth, GrowsByPrefix}
+use Rattle.folder_io.specs.Names.{Files, held_at, SameBut}
 use Rattle.netmesh_cli.specs.declared.outcome.Outcome.{Outcome}
-use Rattle.netmesh_cli.specs.declared.outcome.Outcome.TheVariants.{Stuck, Refused}
+use Rattle.netmesh_cli.specs.declared.outcome.Outcome.TheVariants.{Done, Stuck, Stopped, Good, Bad, Shown, Refused}
 use Rattle.netmesh_cli.specs.declared.outcome.Refusal.{Refusal}
 use Rattle.netmesh_cli.specs.declared.outcome.Refusal.TheVariants.{Folder, Out, Memory, NotYet}
-use Rattle.netmesh_cli.specs.Words.{MeshNames}
+use Rattle.netmesh_cli.specs.Words.{MeshNames, IsMeshForm, IsUnknown}
 use Rattle.netmesh_cli.specs.Causes.{IsMemory}
 use Rattle.netmesh_cli.specs.Accepted.{RefusesGeometry, RefusesRules, HoldsSomeGeometry, IsSomeAccepted}
 use Rattle.netmesh_cli.specs.Course.{IsMeshed, IsSummary}

@@ -1,4 +1,4 @@
-use Rattle.std.proofs.Common.{arith, ◌∙◌}
+use Rattle.std.proofs.Common.{rules, arith, ◌∙◌, IfOk}
 use Rattle.std.proofs.lemmas.Result.{err_from_is_err_and, MatchResult-weaker}
 use Rattle.netmesh_cli.specs.Words.{names_of}
 use Rattle.netmesh_cli.specs.Course.{at_geometry}

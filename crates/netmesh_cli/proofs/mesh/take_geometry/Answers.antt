@@ -1,3 +1,4 @@
+use Rattle.std.proofs.Common.{rules}
 use Rattle.std.proofs.lemmas.Result.{MatchResult-weaker}
 use Rattle.netmesh_cli.proofs.Taken.{geometry_held, geometry_refused}
 use Rattle.netmesh_cli.proofs.mesh.take_geometry.Goals as goal

@@ -1,5 +1,6 @@
+use Rattle.std.proofs.Common.{rules, arith}
 use Rattle.netmesh_cli.specs.Words.{names_of}
-use Rattle.netmesh_cli.proofs.Tops.{stuck_answers, refused_answers, refused_exactlies, stuck_exactlies}
+use Rattle.netmesh_cli.proofs.Tops.{stuck_answers, refused_answers, refused_exactlies, stuck_exactlies, line_after}
 use Rattle.netmesh_cli.proofs.top.netmesh.Goals as goal
 
 pub returns-in-Ok-clause-unknown_words : goal.returns-in-Ok-clause-unknown_words

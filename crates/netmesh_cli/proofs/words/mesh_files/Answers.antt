@@ -1,4 +1,5 @@
-use Rattle.std.proofs.Common.{rules, arith, ◌≡◌, map, string_bytes, ap, codes}
+use Rattle.std.proofs.Common.{rules, arith, ◌≡◌, List, map, length, string_bytes, ap, [], codes}
+use Rattle.netmesh_cli.specs.Words.{IsMeshForm, AreUsable, MeshNames}
 use Rattle.netmesh_cli.proofs.FiveWords.{five_items}
 use Rattle.netmesh_cli.proofs.words.mesh_files.Goals as goal
 

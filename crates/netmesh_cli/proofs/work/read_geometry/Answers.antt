@@ -1,11 +1,11 @@
-use Rattle.std.proofs.Common.{refl, sym, subst, ap, ◌∙◌, ◌≡◌, length, true}
+use Rattle.std.proofs.Common.{refl, sym, subst, ap, ◌∙◌, ℕ, ◌≡◌, length, Bool, true, false}
 use Rattle.std.specs.Prelude.{All}
 use Rattle.std.proofs.lemmas.Result.{err_from_is_err_and}
 use Rattle.grid_geom.specs.Bounds.{IsOnGrid}
 use Rattle.netmesh_cli.specs.Accepted.{TurnsLeft}
 use Rattle.netmesh_cli.proofs.Triangles.{first_form_readable}
 use Rattle.netmesh_cli.proofs.Placings.{placed_on_grid, placed_three}
-use Rattle.netmesh_cli.proofs.Works.{none_read, none_placed, none_turns, triangle_runnable, refused_weaker}
+use Rattle.netmesh_cli.proofs.Works.{none_read, none_placed, none_turns, triangle_runnable, triangle_stuck, refused_weaker}
 use Rattle.netmesh_cli.proofs.work.read_geometry.Goals as goal
 
 pub returns-in_err-raw-clause-refused : goal.returns-in_err-raw-clause-refused

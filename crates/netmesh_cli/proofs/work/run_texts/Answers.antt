@@ -1,3 +1,4 @@
+use Rattle.std.proofs.Common.{refl}
 use Rattle.netmesh_cli.proofs.Works.{run_covered}
 use Rattle.netmesh_cli.proofs.work.run_texts.Goals as goal
 
