@@ -1,0 +1,9 @@
+pub mod NumberLemmas
+pub mod TokenLists
+pub mod Loops
+pub mod Good
+pub mod GoodEntries
+pub mod GoodLists
+pub mod GoodMany
+pub mod GoodSections
+pub mod GoodFile
