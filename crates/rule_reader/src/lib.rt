@@ -1,7 +1,7 @@
 //! Which rules does a text have?
 //!
 //! 1. A text is read from left to right, each word once.
-//! 2. What is refused is refused at the least word where a fault stands.
+//! 2. A text that is refused is refused at the first fault from left to right.
 //! 3. Numbers are kept in units of 1/10,000.
 #![tactic(auto)]
 
