@@ -26,12 +26,12 @@ use Rattle.in2d_reader.proofs.Forward.{bind_ok, guard_ok, done, new_point_row, n
 
 -- ---- a number is no fixed word and no flag
 
-whole_digits : (word : Word) (greatest n : ℕ) → whole_of word greatest ≡ Some n → all_ascii_digits word ≡ true
+pub whole_digits : (word : Word) (greatest n : ℕ) → whole_of word greatest ≡ Some n → all_ascii_digits word ≡ true
 whole_digits word greatest n e =
     let c = cond_some (is_whole word && nat_le (value_of word) greatest) (value_of word) n e in
     (and_parts _ _ (and_parts _ _ c.0).0).1
 
-digits_no_flag : (word : Word) → all_ascii_digits word ≡ true → is_flag word ≡ false
+pub digits_no_flag : (word : Word) → all_ascii_digits word ≡ true → is_flag word ≡ false
 unfolding is_flag
 digits_no_flag [] all = refl
 digits_no_flag (b ∷ []) all = refl
@@ -54,11 +54,11 @@ materials_no_digits : all_ascii_digits materials_word ≡ false
 unfolding materials_word
 materials_no_digits = refl
 
-segments_no_flag : is_flag segments_word ≡ false
+pub segments_no_flag : is_flag segments_word ≡ false
 unfolding segments_word is_flag
 segments_no_flag = refl
 
-materials_no_flag : is_flag materials_word ≡ false
+pub materials_no_flag : is_flag materials_word ≡ false
 unfolding materials_word is_flag
 materials_no_flag = refl
 

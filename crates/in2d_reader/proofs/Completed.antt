@@ -100,7 +100,7 @@ from_y strict d n x = extend strict (at_spot d (InPoints (points.Y n x))) (at_sp
 from_x : (strict : Bool) (d : Draft) (n : ℕ) → Completes strict (at_spot d (InPoints (points.X n)))
 from_x strict d n = extend strict (at_spot d (InPoints (points.X n))) (at_spot d (InPoints (points.Y n none))) nought (λ at. point_x_step strict d n at nought none nought_decimal) (from_y strict d n none)
 
-points_step : (strict : Bool) (d : Draft) (at : ℕ) → step strict (at_spot d (InHead heads.Points)) at points_word ≡ Ok (at_spot d (InPoints points.Start))
+pub points_step : (strict : Bool) (d : Draft) (at : ℕ) → step strict (at_spot d (InHead heads.Points)) at points_word ≡ Ok (at_spot d (InPoints points.Start))
 unfolding spot_step head_step
 points_step strict d at = rw (same_word points_word) refl
 
@@ -108,7 +108,7 @@ number_step : (strict : Bool) (d : Draft) (at : ℕ) → step strict (at_spot d 
 unfolding spot_step head_step
 number_step strict d at = rw nought_decimal refl
 
-first_step : (strict : Bool) (d : Draft) (at : ℕ) → step strict (at_spot d (InHead heads.First)) at head_word ≡ Ok (at_spot d (InHead heads.Number))
+pub first_step : (strict : Bool) (d : Draft) (at : ℕ) → step strict (at_spot d (InHead heads.First)) at head_word ≡ Ok (at_spot d (InHead heads.Number))
 unfolding spot_step head_step
 first_step strict d at = rw (same_word head_word) refl
 

@@ -4,7 +4,9 @@ pub mod Forward
 pub mod Again
 pub mod Limits
 pub mod Completed
+pub mod Needs
 pub mod Refused
+pub mod OneRefusal
 pub mod Lines
 pub mod Texts
 pub mod Printed

@@ -22,10 +22,11 @@ use Rattle.in2d_reader.specs.declared.place.SegmentPlace.TheVariants as segments
 use Rattle.in2d_reader.specs.Words.{Word, head_word, points_word, segments_word, materials_word, two_word, three_word, is_flag, is_name, Given, Nothing, Value, Bad, size_in, number_in, from_one}
 use Rattle.in2d_reader.specs.Steps.{MaterialSpot, NoMaterial, MaterialName, MaterialEnd, Spot, InHead, InPoints, InSegments, InMaterials, Draft, Step, at_spot, with_point, with_segment, with_material, with_number, or_else, ◌>>=◌, head_step, size_after, number_after, sized_point, flagged_segment, sized_material, new_point, point_start, point_flag, point_step, new_segment, segment_start, shape_step, segment_flag, segment_step, material_start, material_flag, material_step, spot_step, step, nothing_read, steps, whole_raw, finish_spot, finish, known_from, with_known, finished, geometry_of}
 use Rattle.in2d_reader.specs.Grammar.{is_known, HasEnds, Within, Fits, Derives}
-use Rattle.in2d_reader.specs.Refusals.{Fails, Gives, IsFront, IsAny, Stops, Passes, Misses, Refuses}
+use Rattle.in2d_reader.specs.Refusals.{Fails, Gives, IsFront, IsAny, Stops, Passes, Misses, Admits, WantsNumber, StandsForNumber, IsCurved, Refuses}
 use Rattle.in2d_reader.proofs.Forward.{bind_ok, ok_is, done, derived}
 use Rattle.in2d_reader.proofs.Again.{AllDone, file_read, file_rooms}
 use Rattle.in2d_reader.proofs.Completed.{completed}
+use Rattle.in2d_reader.proofs.Needs.{need, IsInside, IsRowEnd, IsOpen, IsShape, some_none, inside_is_number, inside_goes_on, flag_follows_row, plain_flag, plain_is_flag, flag_on, OpensTo, opens_to, straight, KindFits, KindsFit, spot_kinds}
 use Rattle.in2d_reader.proofs.Limits.{loose_points, loose_segments, within, rooms}
 
 -- ---- what is read to the end
@@ -36,7 +37,7 @@ read_within words raw d w =
     let room = rooms raw w in
     subst (λ (ws : List Word). AllDone true nothing_read 1 ws raw) (sym d.2) (file_read true d.0 raw d.1 room.0 room.1)
 
-read_loosely : (words : List Word) (raw : RawGeometry) → Derives words raw → AllDone false nothing_read 1 words raw
+pub read_loosely : (words : List Word) (raw : RawGeometry) → Derives words raw → AllDone false nothing_read 1 words raw
 read_loosely words raw d = subst (λ (ws : List Word). AllDone false nothing_read 1 ws raw) (sym d.2) (file_read false d.0 raw d.1 (loose_points [] raw.points) (loose_segments [] raw.segments))
 
 strictly_within : (words : List Word) (raw : RawGeometry) (last : Draft) (end : ℕ) → steps true nothing_read 1 words ≡ Ok last → finish last end ≡ Ok raw → Derives words raw × Within raw
@@ -357,45 +358,127 @@ no_front strict before word rest m last e read stop all =
     let b = bind_ok (step strict m (1 + length before) word) (λ next. steps strict next (1 + length before + 1) rest) last on in
     not_both b.0 e (sym b.1 ∙ stop)
 
-abbrev pub at_of : List Word → ℕ
-at_of before = length before + 1
+-- ---- what may come
 
-loose_stop : (words before : List Word) (word : Word) (after : List Word) (m : Draft) (e : In2dRefusal) → words ≡ before ++ (word ∷ after) → steps true nothing_read 1 before ≡ Ok m → step false m (1 + length before) word ≡ Err e → Stops IsAny words (at_of before) word
-loose_stop words before word after m e same read stop = record {
-  before = before;
-  after = after;
-  same = same;
-  place = refl;
-  front = front_within before m read;
-  stop = λ front.
-      let all = read_loosely ((before ++ word ∷ []) ++ front.0) front.1 front.2 in
-      no_front false before word front.0 m all.last e (strict_steps nothing_read m 1 before read) stop all.read;
+-- a word that may come is read
+admitted_step : (before : List Word) (word : Word) (m : Draft) → steps false nothing_read 1 before ≡ Ok m → Admits before word → (next : Draft) × (step false m (1 + length before) word ≡ Ok next)
+unfolding steps
+admitted_step before word m read admits =
+    let all = read_loosely ((before ++ word ∷ []) ++ admits.0) admits.1 admits.2 in
+    let regrouped : (before ++ word ∷ []) ++ admits.0 ≡ before ++ (word ∷ admits.0) = append_assoc before (word ∷ []) admits.0 in
+    let on : steps false m (1 + length before) (word ∷ admits.0) ≡ Ok all.last = sym (steps_append false nothing_read m 1 before (word ∷ admits.0) read) ∙ ap (λ (w : List Word). steps false nothing_read 1 w) (sym regrouped) ∙ all.read in
+    let b = bind_ok (step false m (1 + length before) word) (λ next. steps false next (1 + length before + 1) admits.0) all.last on in
+    (b.0, b.1)
+
+-- and a word that is read may come
+step_admits : (before : List Word) (word : Word) (m next : Draft) → steps false nothing_read 1 before ≡ Ok m → step false m (1 + length before) word ≡ Ok next → Admits before word
+unfolding steps
+step_admits before word m next read on = front_any (before ++ word ∷ []) next (steps_append false nothing_read m 1 before (word ∷ []) read ∙ ap (λ (r : Step). r >>= λ n. Ok n) on)
+
+wants_number : (before : List Word) (m : Draft) → steps false nothing_read 1 before ≡ Ok m → IsInside (need m.spot) → WantsNumber before
+unfolding finish
+wants_number before m read inside = record {
+  only = λ word admits.
+      let on = admitted_step before word m read admits in
+      inside_is_number m on.0 m.spot (1 + length before) word inside on.1;
+  on = λ raw is.
+      let all = read_loosely before raw is in
+      let same : all.last ≡ m = ok_is _ _ (sym all.read ∙ read) in
+      inside_goes_on m m.spot 0 raw inside (ap (λ (n : Draft). finish n 0) (sym same) ∙ all.finish 0);
 }
 
-limit_stop : (words before : List Word) (word : Word) (after : List Word) (m next : Draft) (e : In2dRefusal) → words ≡ before ++ (word ∷ after) → steps true nothing_read 1 before ≡ Ok m → step true m (1 + length before) word ≡ Err e → step false m (1 + length before) word ≡ Ok next → Passes words (at_of before) word
-unfolding steps
-limit_stop words before word after m next e same read stop on =
-    let one : steps false nothing_read 1 (before ++ word ∷ []) ≡ Ok next =
-    steps_append false nothing_read m 1 before (word ∷ []) (strict_steps nothing_read m 1 before read) ∙ ap (λ (r : Step). r >>= λ n. Ok n) on in
-    record {
-      stops = record {
+wants_other : (before : List Word) (m : Draft) → steps false nothing_read 1 before ≡ Ok m → OpensTo m → WantsNumber before → ⊥
+wants_other before m read (inl (word, next, one, other)) wants = some_none (decimal_of word) (wants.only word (step_admits before word m next read (one (1 + length before)))).0 (wants.only word (step_admits before word m next read (one (1 + length before)))).1 other
+wants_other before m read (inr (raw, ends)) wants = wants.on raw (derived false before raw m 1 0 read (ends 0))
+
+-- ---- the kind of a refusal says what may come
+
+for_number : (before : List Word) (m : Draft) (word : Word) → steps false nothing_read 1 before ≡ Ok m → IsInside (need m.spot) ⊎ ((is_flag word ≡ true) × IsRowEnd (need m.spot)) → StandsForNumber before word
+for_number before m word read (inl inside) = inl (wants_number before m read inside)
+for_number before m word read (inr (flag, end)) =
+    let on = flag_on m m.spot end in
+    inr (flag, (plain_flag, plain_is_flag, step_admits before plain_flag m on.0 read (on.1 (1 + length before))))
+
+not_for_number : (before : List Word) (m : Draft) (word : Word) → steps false nothing_read 1 before ≡ Ok m → IsOpen (need m.spot) → (is_flag word ≡ true → IsRowEnd (need m.spot) → ⊥) → StandsForNumber before word → ⊥
+not_for_number before m word read open_spot other (inl wants) = wants_other before m read (opens_to m m.spot open_spot) wants
+not_for_number before m word read open_spot other (inr (flag, (any, is, admits))) =
+    let on = admitted_step before any m read admits in
+    other flag (flag_follows_row m on.0 m.spot (1 + length before) any is on.1)
+
+-- the third number of segment k comes next
+record WantsShape (before : List Word) (k : ℕ) : Type 0 where
+  number : WantsNumber before
+  raw : RawGeometry
+  straight : Derives (before ++ two_word ∷ two_word ∷ two_word ∷ []) raw
+  last : k ≡ length raw.segments
+
+wants_shape : (before : List Word) (m : Draft) (k : ℕ) → steps false nothing_read 1 before ≡ Ok m → IsShape m m.spot k → WantsShape before k
+wants_shape before m k read shape =
+    let s = straight m m.spot k shape in
+    let all : steps false nothing_read 1 (before ++ two_word ∷ two_word ∷ two_word ∷ []) ≡ Ok s.last = steps_append false nothing_read m 1 before (two_word ∷ two_word ∷ two_word ∷ []) read ∙ s.read (1 + length before) in
+    record { number = wants_number before m read s.inside; raw = s.raw; straight = derived false (before ++ two_word ∷ two_word ∷ two_word ∷ []) s.raw s.last 1 0 all (s.finish 0); last = s.count }
+
+abbrev KindOf : List Word → Word → In2dRefusal → Type 0
+KindOf before word (Syntax v) = StandsForNumber before word → ⊥
+KindOf before word (Number v) = StandsForNumber before word × (word ≡ three_word → ⊥)
+KindOf before word (Curved k) = WantsShape before k
+KindOf before word (TooMany v) = Unit {0}
+KindOf before word (NumberTwice v) = Unit {0}
+KindOf before word (UnknownPoint v) = Unit {0}
+KindOf before word Memory = Unit {0}
+
+kind_of : (before : List Word) (m : Draft) (word : Word) (e : In2dRefusal) → steps false nothing_read 1 before ≡ Ok m → KindFits m m.spot word e → KindOf before word e
+kind_of before m word (Syntax v) read fits = not_for_number before m word read fits.0 fits.1
+kind_of before m word (Number v) read fits = (for_number before m word read fits.0, fits.1)
+kind_of before m word (Curved k) read fits = wants_shape before m k read fits
+kind_of before m word (TooMany v) read fits = tt
+kind_of before m word (NumberTwice v) read fits = tt
+kind_of before m word (UnknownPoint v) read fits = tt
+kind_of before m word Memory read fits = tt
+
+abbrev StopsSo : List Word → ℕ → Word → In2dRefusal → Type 0
+StopsSo words at word e = (s : Stops IsAny words at word) × KindOf s.before word e
+
+loose_stop : (words before : List Word) (word : Word) (after : List Word) (m : Draft) (e : In2dRefusal) → words ≡ before ++ (word ∷ after) → steps true nothing_read 1 before ≡ Ok m → step false m (1 + length before) word ≡ Err e → StopsSo words (length before + 1) word e
+loose_stop words before word after m e same read stop =
+    let loosely = strict_steps nothing_read m 1 before read in
+    let fits : KindFits m m.spot word e = subst (λ (r : Step). KindsFit m m.spot word r) stop (spot_kinds m m.spot (1 + length before) word) in (
+      record {
         before = before;
         after = after;
         same = same;
         place = refl;
         front = front_within before m read;
         stop = λ front.
-            let all = read_within ((before ++ word ∷ []) ++ front.0) front.1 front.2 front.3 in
-            no_front true before word front.0 m all.last e read stop all.read;
-      };
-      derived = front_any (before ++ word ∷ []) next one;
-    }
+            let all = read_loosely ((before ++ word ∷ []) ++ front.0) front.1 front.2 in
+            no_front false before word front.0 m all.last e loosely stop all.read;
+      },
+      kind_of before m word e loosely fits,
+    )
+
+limit_stop : (words before : List Word) (word : Word) (after : List Word) (m next : Draft) (e : In2dRefusal) → words ≡ before ++ (word ∷ after) → steps true nothing_read 1 before ≡ Ok m → step true m (1 + length before) word ≡ Err e → step false m (1 + length before) word ≡ Ok next → Passes words (length before + 1) word
+limit_stop words before word after m next e same read stop on = record {
+  stops = record {
+    before = before;
+    after = after;
+    same = same;
+    place = refl;
+    front = front_within before m read;
+    stop = λ front.
+        let all = read_within ((before ++ word ∷ []) ++ front.0) front.1 front.2 front.3 in
+        no_front true before word front.0 m all.last e read stop all.read;
+  };
+  derived = step_admits before word m next (strict_steps nothing_read m 1 before read) on;
+}
 
 -- a refusal at a word is one of the grammar or one of the limits
-refusal_of_grammar : (words : List Word) (at : ℕ) (word : Word) (e : In2dRefusal) → IsFault at word e → Stops IsAny words at word → Refuses words e
-refusal_of_grammar words at word (Syntax v) fault stops = inl (word, subst (λ (a : ℕ). Stops IsAny words a word) (sym fault) stops)
-refusal_of_grammar words at word (Number v) fault stops = (word, subst (λ (a : ℕ). Stops IsAny words a word) (sym fault) stops)
-refusal_of_grammar words at word (Curved k) fault stops = (at, subst (λ (w : Word). Stops IsAny words at w) fault stops)
+refusal_of_grammar : (words : List Word) (at : ℕ) (word : Word) (e : In2dRefusal) → IsFault at word e → StopsSo words at word e → Refuses words e
+refusal_of_grammar words at word (Syntax v) fault stops = let moved = subst (λ (a : ℕ). (s : Stops IsAny words a word) × (StandsForNumber s.before word → ⊥)) (sym fault) stops in inl (word, moved.0, moved.1)
+refusal_of_grammar words at word (Number v) fault stops = let moved = subst (λ (a : ℕ). (s : Stops IsAny words a word) × (StandsForNumber s.before word × (word ≡ three_word → ⊥))) (sym fault) stops in (word, moved.0, moved.1.0, moved.1.1)
+refusal_of_grammar words at word (Curved k) fault stops = curved (subst (λ (w : Word). (s : Stops IsAny words at w) × WantsShape s.before k) fault stops)
+  where
+    curved : (s : Stops IsAny words at three_word) × WantsShape s.before k → IsCurved words k
+    curved (s, shape) = record { at = at; stops = s; number = shape.number; raw = shape.raw; straight = shape.straight; last = shape.last }
 refusal_of_grammar words at word (TooMany what) fault stops = absurd fault
 refusal_of_grammar words at word (NumberTwice v) fault stops = absurd fault
 refusal_of_grammar words at word (UnknownPoint v) fault stops = absurd fault

@@ -5,12 +5,18 @@
 -- IsFront         words that a derived text begins with
 -- Stops           the first word that doesn't fit
 -- Misses          a word is missing at the end
--- Refuses         words that are refused so
-use Rattle.std.specs.Prelude.{◌≡◌, ◌⊎◌, ℕ, ◌+◌, List, [], ◌∷◌, ◌++◌, length, Result, Ok, Err}
+-- IsUnknown       the first segment that names a point that is not there
+-- WantsNumber     only a number may come next; TakesFlag, a flag may
+-- StandsForNumber a word in the place of a number, or a flag in the place of one
+-- IsCurved        a segment that is curved
+-- Refuses         words that are refused so; IsOfGrammar, a refusal by the grammar
+use Rattle.std.specs.Prelude.{◌≡◌, ◌⊎◌, ℕ, ◌+◌, true, Some, List, [], ◌∷◌, ◌++◌, length, Result, Ok, Err}
 use Rattle.std.specs.List.{AllByRecursion}
+use Rattle.word_scan.specs.declared.decimals.Dec.{Dec}
+use Rattle.word_scan.specs.Decimals.{decimal_of}
 use Rattle.in2d_reader.specs.declared.geometry.SegmentRow.{SegmentRow}
 use Rattle.in2d_reader.specs.declared.geometry.RawGeometry.{RawGeometry}
-use Rattle.in2d_reader.specs.Words.{Word, three_word}
+use Rattle.in2d_reader.specs.Words.{Word, two_word, three_word, is_flag}
 use Rattle.in2d_reader.specs.Grammar.{Derives, Within, HasEnds}
 use Rattle.in2d_reader.specs.declared.refusal.In2dRefusal.{In2dRefusal}
 use Rattle.in2d_reader.specs.declared.refusal.In2dRefusal.TheVariants.{Syntax, Number, Curved, TooMany, NumberTwice, UnknownPoint, Memory}
@@ -77,11 +83,49 @@ pub record IsUnknown (raw : RawGeometry) (k : ℕ) : Type 0 where
   pub known : AllByRecursion (HasEnds raw.points) before
   pub unknown : HasEnds raw.points row → ⊥
 
+-- the word may come behind these words
+abbrev pub Admits : List Word → Word → Type 0
+Admits before word = IsFront IsAny (before ++ word ∷ [])
+
+-- only a number may come behind these words, and not the end of the text: a number of a row, but not its first, or that of the file
+pub record WantsNumber (before : List Word) : Type 0 where
+  pub only : (word : Word) → Admits before word → (d : Dec) × (decimal_of word ≡ Some d)
+  pub on : (raw : RawGeometry) → Derives before raw → ⊥
+
+-- a flag may come behind these words: they end with the last word of a row, or with a flag of it
+abbrev pub TakesFlag : List Word → Type 0
+TakesFlag before = (flag : Word) × (is_flag flag ≡ true) × Admits before flag
+
+-- the word stands for a number: it stands where only a number may come, or is a flag that stands where a flag may come
+abbrev pub StandsForNumber : List Word → Word → Type 0
+StandsForNumber before word = WantsNumber before ⊎ ((is_flag word ≡ true) × TakesFlag before)
+
+-- a `3` is the first word that doesn't fit, where only a number may come; with `2 2 2` in its place the text would be whole, with k segments
+pub record IsCurved (words : List Word) (k : ℕ) : Type 0 where
+  pub at : ℕ
+  pub stops : Stops IsAny words at three_word
+  pub number : WantsNumber stops.before
+  pub raw : RawGeometry
+  pub straight : Derives (stops.before ++ two_word ∷ two_word ∷ two_word ∷ []) raw
+  pub last : k ≡ length raw.segments
+
+-- the first word that doesn't fit is refused by Number where it stands for a number, by Curved where this is a `3`,
+-- and by Syntax where it stands for none; a word that is missing at the end is refused by Syntax
 abbrev pub Refuses : List Word → In2dRefusal → Type 0
-Refuses words (Syntax at) = ((word : Word) × Stops IsAny words at word) ⊎ Misses words at
-Refuses words (Number at) = (word : Word) × Stops IsAny words at word
-Refuses words (Curved segment) = (at : ℕ) × Stops IsAny words at three_word
+Refuses words (Syntax at) = ((word : Word) × (s : Stops IsAny words at word) × (StandsForNumber s.before word → ⊥)) ⊎ Misses words at
+Refuses words (Number at) = (word : Word) × (s : Stops IsAny words at word) × StandsForNumber s.before word × (word ≡ three_word → ⊥)
+Refuses words (Curved segment) = IsCurved words segment
 Refuses words (TooMany what) = (at : ℕ) × (word : Word) × Passes words at word
 Refuses words (NumberTwice at) = (word : Word) × Passes words at word
 Refuses words (UnknownPoint segment) = (raw : RawGeometry) × Derives words raw × Within raw × IsUnknown raw segment
 Refuses words Memory = Unit {0}
+
+-- a refusal by the grammar, and not by a limit, a point or memory
+abbrev pub IsOfGrammar : In2dRefusal → Type 0
+IsOfGrammar (Syntax at) = Unit {0}
+IsOfGrammar (Number at) = Unit {0}
+IsOfGrammar (Curved segment) = Unit {0}
+IsOfGrammar (TooMany what) = ⊥
+IsOfGrammar (NumberTwice at) = ⊥
+IsOfGrammar (UnknownPoint segment) = ⊥
+IsOfGrammar Memory = ⊥

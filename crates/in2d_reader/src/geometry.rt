@@ -59,12 +59,14 @@ impl Model for PointRows {
 }
 
 impl PointRows {
+    /// The list of these points. Takes no memory.
     pub fn from_vec(items: Vec<PointRow>) -> Self
         ensures { result ≡ items.items }
     {
         PointRows { items }
     }
 
+    /// The points in their order.
     pub fn as_slice(&self) -> &[PointRow]
         ensures { result.now ≡ self.now }
     {
@@ -88,12 +90,14 @@ impl Model for SegmentRows {
 }
 
 impl SegmentRows {
+    /// The list of these segments. Takes no memory.
     pub fn from_vec(items: Vec<SegmentRow>) -> Self
         ensures { result ≡ items.items }
     {
         SegmentRows { items }
     }
 
+    /// The segments in their order.
     pub fn as_slice(&self) -> &[SegmentRow]
         ensures { result.now ≡ self.now }
     {
@@ -117,12 +121,14 @@ impl Model for MaterialRows {
 }
 
 impl MaterialRows {
+    /// The list of these materials. Takes no memory.
     pub fn from_vec(items: Vec<MaterialRow>) -> Self
         ensures { result ≡ items.items }
     {
         MaterialRows { items }
     }
 
+    /// The materials in their order.
     pub fn as_slice(&self) -> &[MaterialRow]
         ensures { result.now ≡ self.now }
     {

@@ -112,6 +112,7 @@ pub fn whole_first(word: &[u8], greatest: u32, at: u64) -> Result<u32, In2dRefus
     }
 }
 
+/// A decimal inside a row, or that of the file.
 pub fn decimal_inside(word: &[u8], at: u64) -> Result<Dec, In2dRefusal>
     ensures { result ≡ or_else (decimal_of word.now) (Number at) }
 {

@@ -24,6 +24,7 @@ impl Name {
         Name { bytes }
     }
 
+    /// The bytes of the name.
     pub fn as_slice(&self) -> &[u8]
         ensures { result.now ≡ self.now }
     {
