@@ -10,6 +10,7 @@ use Rattle.word_scan.specs.declared.decimals.Dec.{Dec}
 use Rattle.grid_geom.specs.declared.Point.{Point}
 use Rattle.in2d_reader.specs.declared.geometry.PointRow.{PointRow}
 use Rattle.in2d_reader.specs.declared.geometry.SegmentRow.{SegmentRow}
+use Rattle.in2d_reader.specs.declared.geometry.MaterialRow.{MaterialRow}
 use Rattle.in2d_reader.specs.declared.geometry.RawGeometry.{RawGeometry}
 use Rattle.geom_check.specs.declared.kinds.Segment.{Segment}
 use Rattle.geom_check.specs.declared.placing.Placed.{Placed}
@@ -43,12 +44,16 @@ pub record IsReadableSegment (points : List PointRow) (row : SegmentRow) : Type 
   pub left : row.left ≤ 64
   pub right : row.right ≤ 64
 
+abbrev pub IsReadableMaterial : MaterialRow → Type 0
+IsReadableMaterial row = IsReadableIfAny row.maxh
+
 -- numbers within a reader's ranges, and segments that name points of the file
 pub record IsReadable (raw : RawGeometry) : Type 0 where
   pub few_points : length raw.points ≤ 4096
   pub few_segments : length raw.segments ≤ 4096
   pub points : All IsReadablePoint raw.points
   pub segments : All (IsReadableSegment raw.points) raw.segments
+  pub materials : All IsReadableMaterial raw.materials
 
 -- a point of the file on the grid
 abbrev pub place_of : ℤ → PointRow → Point

@@ -1,12 +1,21 @@
--- Why a geometry is refused.
+-- Why a geometry is refused: what holds before the first fault, and the fault at its least place.
 --
--- IsFirstFailing   the number of the first item of a list that isn't as it is to be
--- IsPlaceRefusal   what a refusal to move a file to the grid says
-use Rattle.std.specs.Prelude.{◌≡◌, ℕ, ◌+◌, ◌<◌, List, length, slice_index_or, negsuc}
+-- IsLeast, IsLeastPair   the least place, from 1, of a fault
+-- IsRefusal              what each refusal says of the file
+use Rattle.std.specs.Prelude.{◌≡◌, ◌⊎◌, ℕ, ◌+◌, ◌<◌, ◌≤◌, List, length, slice_index_or, All, Any, ℤ, negsuc}
+use Rattle.grid_geom.specs.declared.Point.{Point}
+use Rattle.grid_geom.specs.declared.RatPoint.{RatPoint}
+use Rattle.grid_geom.specs.Closed.{IsClosed, leaving, arriving}
+use Rattle.grid_geom.specs.Winding.{wind}
 use Rattle.in2d_reader.specs.declared.geometry.RawGeometry.{RawGeometry}
+use Rattle.geom_check.specs.declared.kinds.Segment.{Segment}
 use Rattle.geom_check.specs.declared.refusal.GeomRefusal.{GeomRefusal}
-use Rattle.geom_check.specs.declared.refusal.GeomRefusal.TheVariants.{TooLarge, Memory}
-use Rattle.geom_check.specs.Shift.{FitsRow}
+use Rattle.geom_check.specs.declared.refusal.GeomRefusal.TheVariants.{NoDomain, TooLarge, SamePlace, SameSides, NoLength, Meet, OpenAt, Side, Overlap, Memory}
+use Rattle.geom_check.specs.Shift.{FitsRow, IsShift}
+use Rattle.geom_check.specs.Placed.{points_of, segments_of}
+use Rattle.geom_check.specs.Boundary.{edges_of, boundary}
+use Rattle.geom_check.specs.Accepted.{AreTogether, AreTangled, HasPlaces, HasTwoSides, HasTwoEnds, AreApart, AreClosed, HasSides, IsSide, DoOverlap, NamesDomain}
+use Rattle.geom_check.specs.Strips.{IsWitness}
 
 -- n is the number, from 1, of the first item of a list at which P fails
 pub record IsFirstFailing {A : Type 0} (P : A → Type 0) (items : List A) (n : ℕ) : Type 0 where
@@ -16,8 +25,76 @@ pub record IsFirstFailing {A : Type 0} (P : A → Type 0) (items : List A) (n : 
   pub fails : (d : A) → ¬ P (slice_index_or items index d)
   pub before : (k : ℕ) (d : A) → k < index → P (slice_index_or items k d)
 
--- a coordinate doesn't fit at the coarsest shift, -6, at its first row; or no memory was left
+-- i and j are the numbers, from 1, of the least pair with P
+pub record IsLeastPair (P : ℕ → ℕ → Type 0) (i j : ℕ) : Type 0 where
+  pub first : ℕ
+  pub second : ℕ
+  pub first_number : i ≡ first + 1
+  pub second_number : j ≡ second + 1
+  pub holds : P first second
+  pub least : (k l : ℕ) → P k l → (first < k) ⊎ ((first ≡ k) × (second ≤ l))
+
+-- j is the least with P beside i
+pub record IsFirstPartner (P : ℕ → ℕ → Type 0) (i j : ℕ) : Type 0 where
+  pub holds : P i j
+  pub least : (l : ℕ) → P i l → j ≤ l
+
+-- as many edges of a domain's boundary leave a point as arrive
+abbrev pub IsBalancedAt : List Point → List Segment → ℕ → Point → Type 0
+IsBalancedAt points segments domain p = leaving p (boundary points domain segments) ≡ arriving p (boundary points domain segments)
+
+-- the least domain whose boundary is open, and the first row at which it is
+pub record IsLeastOpen (points : List Point) (segments : List Segment) (point domain : ℕ) : Type 0 where
+  pub positive : 0 < domain
+  pub open_at : IsFirstFailing (IsBalancedAt points segments domain) points point
+  pub least : (d : ℕ) → 0 < d → d < domain → IsClosed (boundary points d segments)
+
+-- the least domain with a winding number other than 0 and 1, and where it has one
+pub record IsLeastSide (points : List Point) (segments : List Segment) (domain : ℕ) (at : RatPoint) : Type 0 where
+  pub positive : 0 < domain
+  pub witness : IsWitness (λ q. ¬ IsSide (wind q (boundary points domain segments))) (edges_of points segments) at
+  pub least : (d : ℕ) → 0 < d → d < domain → HasSides points segments d
+
+-- the first fault of points and segments on the grid
+abbrev pub IsFault : GeomRefusal → List Point → List Segment → Type 0
+IsFault NoDomain points segments = ⊥
+IsFault (TooLarge point) points segments = ⊥
+IsFault (SamePlace i j) points segments = IsLeastPair (AreTogether points) i j
+IsFault (SameSides segment) points segments = HasPlaces points × IsFirstFailing HasTwoSides segments segment
+IsFault (NoLength segment) points segments = HasPlaces points × All HasTwoSides segments × IsFirstFailing HasTwoEnds segments segment
+IsFault (Meet i j) points segments = HasPlaces points × All HasTwoSides segments × All HasTwoEnds segments × IsLeastPair (AreTangled (edges_of points segments)) i j
+IsFault (OpenAt point domain) points segments = HasPlaces points × All HasTwoSides segments × All HasTwoEnds segments × AreApart (edges_of points segments) × IsLeastOpen points segments point domain
+IsFault (Side domain at) points segments = HasPlaces points × All HasTwoSides segments × All HasTwoEnds segments × AreApart (edges_of points segments) × AreClosed points segments × IsLeastSide points segments domain at
+IsFault (Overlap at) points segments = HasPlaces points × All HasTwoSides segments × All HasTwoEnds segments × AreApart (edges_of points segments) × AreClosed points segments × ((d : ℕ) → 0 < d → HasSides points segments d) × IsWitness (DoOverlap points segments) (edges_of points segments) at
+IsFault Memory points segments = ⊥
+
+-- a fault on the grid, at the file's shift
+pub record IsPlacedFault (raw : RawGeometry) (refusal : GeomRefusal) : Type 0 where
+  pub domain : Any NamesDomain raw.segments
+  pub fits : All (FitsRow (negsuc 5)) raw.points
+  pub fault : (shift : ℤ) → IsShift shift raw.points → IsFault refusal (points_of shift raw.points) (segments_of shift raw)
+
+-- `place` refuses for a coordinate that doesn't fit, or for want of memory
 abbrev pub IsPlaceRefusal : RawGeometry → GeomRefusal → Type 0
 IsPlaceRefusal raw (TooLarge point) = IsFirstFailing (FitsRow (negsuc 5)) raw.points point
 IsPlaceRefusal raw Memory = Unit {0}
 IsPlaceRefusal raw _ = ⊥
+
+-- the first fault of a file
+abbrev pub IsRefusal : RawGeometry → GeomRefusal → Type 0
+IsRefusal raw NoDomain = ¬ (Any NamesDomain raw.segments)
+IsRefusal raw (TooLarge point) = Any NamesDomain raw.segments × IsFirstFailing (FitsRow (negsuc 5)) raw.points point
+IsRefusal raw Memory = Unit {0}
+IsRefusal raw refusal = IsPlacedFault raw refusal
+
+-- the first fault of winding numbers
+abbrev pub IsWindingFault : List Point → List Segment → GeomRefusal → Type 0
+IsWindingFault points segments (Side domain at) = IsLeastSide points segments domain at
+IsWindingFault points segments (Overlap at) = ((d : ℕ) → 0 < d → HasSides points segments d) × IsWitness (DoOverlap points segments) (edges_of points segments) at
+IsWindingFault points segments Memory = Unit {0}
+IsWindingFault points segments _ = ⊥
+
+-- a fault on the grid, or want of memory
+abbrev pub IsFaultOrMemory : List Point → List Segment → GeomRefusal → Type 0
+IsFaultOrMemory points segments Memory = Unit {0}
+IsFaultOrMemory points segments refusal = IsFault refusal points segments

@@ -4,12 +4,12 @@ use Rattle.std.specs.Prelude.{Option, None, Some}
 use Rattle.folder_io.specs.Causes.{Told, ToldBoth}
 use Rattle.folder_io.specs.Names.{Files}
 use Rattle.netmesh_cli.specs.declared.outcome.Refusal.{Refusal}
-use Rattle.netmesh_cli.specs.declared.outcome.Refusal.TheVariants.{Folder, Out, Memory, NotYet}
+use Rattle.netmesh_cli.specs.declared.outcome.Refusal.TheVariants.{Words, In2d, Geometry, Folder, Out, Memory, NotYet}
 use Rattle.netmesh_cli.specs.Words.{MeshNames}
 use Rattle.netmesh_cli.specs.Causes.{IsFolderFault, PutRefused, AnswerRefused}
-use Rattle.netmesh_cli.specs.Accepted.{RefusesGeometry, RefusesRules, HoldsSomeGeometry, IsSomeAccepted}
-use Rattle.netmesh_cli.specs.Course.{FileRefused, Course, at_geometry, at_rules, at_work, at_log, at_mesh, at_answer, StopsAtLog, StopsAtMesh, HasBoth}
-use Rattle.netmesh_cli.specs.Stands.{RefusalCause, FolderCause, of_geometry, of_rules, of_log, of_mesh, of_the_geometry, of_the_rules}
+use Rattle.netmesh_cli.specs.Accepted.{HoldsSomePlain, IsSomeAccepted}
+use Rattle.netmesh_cli.specs.Course.{PlainRefused, RulesRefused, Course, at_geometry, at_rules, at_work, at_log, at_mesh, at_answer, StopsAtLog, StopsAtMesh, HasBoth}
+use Rattle.netmesh_cli.specs.Stands.{RefusalCause, FolderCause, of_geometry, of_rules, of_log, of_mesh, of_a_size, of_the_rules}
 
 -- what both tell meets P where it stayed as it was and P holds of anything beside itself
 pub told_as_before : (before after : Option Files) (P : Files → Files → Type 0) → after ≡ before → ((files : Files) → P files files) → ToldBoth before after P
@@ -30,34 +30,49 @@ told_before (Some old) (Some new) P Q all told = all old new told
 folder_of_geometry : (names : MeshNames) (held : Option Files) (failed : List ℕ → Type 0) (name : List ℕ) (number : ℕ) → name ≡ names.geometry → IsFolderFault held names.geometry (failed names.geometry) number → FolderCause names held failed name number
 folder_of_geometry names held failed name number e fault = of_geometry e (subst (λ (n : List ℕ). IsFolderFault held n (failed n) number) (sym e) fault)
 
-folder_of_rules : (names : MeshNames) (held : Option Files) (failed : List ℕ → Type 0) (name : List ℕ) (number : ℕ) → name ≡ names.rules → Told held (HoldsSomeGeometry names.geometry) → IsFolderFault held names.rules (failed names.rules) number → FolderCause names held failed name number
+folder_of_rules : (names : MeshNames) (held : Option Files) (failed : List ℕ → Type 0) (name : List ℕ) (number : ℕ) → name ≡ names.rules → Told held (HoldsSomePlain names.geometry) → IsFolderFault held names.rules (failed names.rules) number → FolderCause names held failed name number
 folder_of_rules names held failed name number e accepted fault = of_rules e accepted (subst (λ (n : List ℕ). IsFolderFault held n (failed n) number) (sym e) fault)
 
-cause_at_geometry : (names : MeshNames) (held : Option Files) (failed : List ℕ → Type 0) (untaken : Type 0) (r : Refusal) → FileRefused held names.geometry (failed names.geometry) 2 (λ files. RefusesGeometry files names.geometry) r → RefusalCause names held failed untaken r
+cause_at_geometry : (names : MeshNames) (held : Option Files) (failed : List ℕ → Type 0) (untaken : Type 0) (r : Refusal) → PlainRefused held names.geometry (failed names.geometry) r → RefusalCause names held failed untaken r
+cause_at_geometry names held failed untaken (Words fault) h = absurd h
+cause_at_geometry names held failed untaken (In2d fault) h = h
+cause_at_geometry names held failed untaken (Geometry fault) h = h
 cause_at_geometry names held failed untaken (Folder name number) h = folder_of_geometry names held failed name number h.0 h.1
 cause_at_geometry names held failed untaken Out h = absurd h
 cause_at_geometry names held failed untaken Memory h = tt
-cause_at_geometry names held failed untaken (NotYet part) h = of_the_geometry h.0 h.1
+cause_at_geometry names held failed untaken (NotYet part) h = of_a_size h.0 h.1
 
-cause_at_rules : (names : MeshNames) (held : Option Files) (failed : List ℕ → Type 0) (untaken : Type 0) (r : Refusal) → Told held (HoldsSomeGeometry names.geometry) → FileRefused held names.rules (failed names.rules) 3 (λ files. RefusesRules files names.rules) r → RefusalCause names held failed untaken r
+cause_at_rules : (names : MeshNames) (held : Option Files) (failed : List ℕ → Type 0) (untaken : Type 0) (r : Refusal) → Told held (HoldsSomePlain names.geometry) → RulesRefused held names.rules (failed names.rules) r → RefusalCause names held failed untaken r
+cause_at_rules names held failed untaken (Words fault) accepted h = absurd h
+cause_at_rules names held failed untaken (In2d fault) accepted h = absurd h
+cause_at_rules names held failed untaken (Geometry fault) accepted h = absurd h
 cause_at_rules names held failed untaken (Folder name number) accepted h = folder_of_rules names held failed name number h.0 accepted h.1
 cause_at_rules names held failed untaken Out accepted h = absurd h
 cause_at_rules names held failed untaken Memory accepted h = tt
 cause_at_rules names held failed untaken (NotYet part) accepted h = of_the_rules h.0 accepted h.1
 
 cause_at_log : (names : MeshNames) (held : Option Files) (failed : List ℕ → Type 0) (untaken : Type 0) (r : Refusal) → Told held (IsSomeAccepted names) → PutRefused names.log (failed names.log) r → RefusalCause names held failed untaken r
+cause_at_log names held failed untaken (Words fault) accepted h = absurd h
+cause_at_log names held failed untaken (In2d fault) accepted h = absurd h
+cause_at_log names held failed untaken (Geometry fault) accepted h = absurd h
 cause_at_log names held failed untaken (Folder name number) accepted h = of_log h.0 accepted h.1 (subst failed (sym h.0) h.2)
 cause_at_log names held failed untaken Out accepted h = absurd h
 cause_at_log names held failed untaken Memory accepted h = tt
 cause_at_log names held failed untaken (NotYet part) accepted h = absurd h
 
 cause_at_mesh : (names : MeshNames) (held : Option Files) (failed : List ℕ → Type 0) (untaken : Type 0) (r : Refusal) → Told held (IsSomeAccepted names) → PutRefused names.mesh (failed names.mesh) r → RefusalCause names held failed untaken r
+cause_at_mesh names held failed untaken (Words fault) accepted h = absurd h
+cause_at_mesh names held failed untaken (In2d fault) accepted h = absurd h
+cause_at_mesh names held failed untaken (Geometry fault) accepted h = absurd h
 cause_at_mesh names held failed untaken (Folder name number) accepted h = of_mesh h.0 accepted h.1 (subst failed (sym h.0) h.2)
 cause_at_mesh names held failed untaken Out accepted h = absurd h
 cause_at_mesh names held failed untaken Memory accepted h = tt
 cause_at_mesh names held failed untaken (NotYet part) accepted h = absurd h
 
 cause_at_answer : (names : MeshNames) (held : Option Files) (failed : List ℕ → Type 0) (untaken : Type 0) (r : Refusal) → Told held (IsSomeAccepted names) → AnswerRefused untaken r → RefusalCause names held failed untaken r
+cause_at_answer names held failed untaken (Words fault) accepted h = absurd h
+cause_at_answer names held failed untaken (In2d fault) accepted h = absurd h
+cause_at_answer names held failed untaken (Geometry fault) accepted h = absurd h
 cause_at_answer names held failed untaken (Folder name number) accepted h = absurd h
 cause_at_answer names held failed untaken Out accepted h = (accepted, h)
 cause_at_answer names held failed untaken Memory accepted h = tt

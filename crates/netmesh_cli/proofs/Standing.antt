@@ -4,11 +4,11 @@ use Rattle.std.specs.Prelude.{Option}
 use Rattle.folder_io.specs.Causes.{ToldBoth}
 use Rattle.folder_io.specs.Names.{Files, held_at}
 use Rattle.netmesh_cli.specs.declared.outcome.Refusal.{Refusal}
-use Rattle.netmesh_cli.specs.declared.outcome.Refusal.TheVariants.{Folder, Out, Memory, NotYet}
+use Rattle.netmesh_cli.specs.declared.outcome.Refusal.TheVariants.{Words, In2d, Geometry, Folder, Out, Memory, NotYet}
 use Rattle.netmesh_cli.specs.Words.{MeshNames}
 use Rattle.netmesh_cli.specs.Causes.{PutRefused, AnswerRefused}
 use Rattle.netmesh_cli.specs.Accepted.{log_of}
-use Rattle.netmesh_cli.specs.Course.{FileRefused, Course, at_geometry, at_rules, at_work, at_log, at_mesh, at_answer, StopsAtLog, StopsAtMesh, HasBoth, with_log}
+use Rattle.netmesh_cli.specs.Course.{PlainRefused, RulesRefused, Course, at_geometry, at_rules, at_work, at_log, at_mesh, at_answer, StopsAtLog, StopsAtMesh, HasBoth, with_log}
 use Rattle.netmesh_cli.specs.Stands.{HasLog, FolderStands, RefusalStands, Keeps}
 use Rattle.folder_io.proofs.Tables.{held_inserted, same_but_inserted}
 use Rattle.netmesh_cli.proofs.Courses.{told_as_before, told_both_weaker}
@@ -86,33 +86,54 @@ mesh_stands names apart old new name number e one s = record {
   at_mesh_alone = λ _ _ _. log_at_mesh names apart old new s;
 }
 
-stands_at_geometry : (names : MeshNames) (held : Option Files) (failed : List ℕ → Type 0) (part : ℕ) (rejects : Files → Type 0) (name : List ℕ) → (name ≡ names.geometry) ⊎ (name ≡ names.rules) → (r : Refusal) → FileRefused held name (failed name) part rejects r → (files : Files) → RefusalStands names files files r
-stands_at_geometry names held failed part rejects taken which (Folder name number) h files = same_stands names files name number (elim which as (λ _. (name ≡ names.geometry) ⊎ (name ≡ names.rules)) [ inl e ↦ inl (h.0 ∙ e) | inr e ↦ inr (h.0 ∙ e) ])
-stands_at_geometry names held failed part rejects taken which Out h files = absurd h
-stands_at_geometry names held failed part rejects taken which Memory h files = tt
-stands_at_geometry names held failed part rejects taken which (NotYet number) h files = refl
+stands_at_geometry : (names : MeshNames) (held : Option Files) (failed : Type 0) (r : Refusal) → PlainRefused held names.geometry failed r → (files : Files) → RefusalStands names files files r
+stands_at_geometry names held failed (Words fault) h files = refl
+stands_at_geometry names held failed (In2d fault) h files = refl
+stands_at_geometry names held failed (Geometry fault) h files = refl
+stands_at_geometry names held failed (Folder name number) h files = same_stands names files name number (inl h.0)
+stands_at_geometry names held failed Out h files = absurd h
+stands_at_geometry names held failed Memory h files = tt
+stands_at_geometry names held failed (NotYet number) h files = refl
+
+stands_at_rules : (names : MeshNames) (held : Option Files) (failed : Type 0) (r : Refusal) → RulesRefused held names.rules failed r → (files : Files) → RefusalStands names files files r
+stands_at_rules names held failed (Words fault) h files = refl
+stands_at_rules names held failed (In2d fault) h files = refl
+stands_at_rules names held failed (Geometry fault) h files = refl
+stands_at_rules names held failed (Folder name number) h files = same_stands names files name number (inr h.0)
+stands_at_rules names held failed Out h files = absurd h
+stands_at_rules names held failed Memory h files = tt
+stands_at_rules names held failed (NotYet number) h files = refl
 
 stands_at_log : (names : MeshNames) → names.mesh ≢ names.log → (failed : Type 0) (r : Refusal) → PutRefused names.log failed r → (old new : Files) → StopsAtLog names old new → RefusalStands names old new r
+stands_at_log names apart failed (Words fault) h old new s = absurd h
+stands_at_log names apart failed (In2d fault) h old new s = absurd h
+stands_at_log names apart failed (Geometry fault) h old new s = absurd h
 stands_at_log names apart failed (Folder name number) h old new s = log_stands names apart old new name number h.0 h.1 s
 stands_at_log names apart failed Out h old new s = absurd h
 stands_at_log names apart failed Memory h old new s = tt
 stands_at_log names apart failed (NotYet part) h old new s = absurd h
 
 stands_at_mesh : (names : MeshNames) → names.mesh ≢ names.log → (failed : Type 0) (r : Refusal) → PutRefused names.mesh failed r → (old new : Files) → StopsAtMesh names old new → RefusalStands names old new r
+stands_at_mesh names apart failed (Words fault) h old new s = absurd h
+stands_at_mesh names apart failed (In2d fault) h old new s = absurd h
+stands_at_mesh names apart failed (Geometry fault) h old new s = absurd h
 stands_at_mesh names apart failed (Folder name number) h old new s = mesh_stands names apart old new name number h.0 h.1 s
 stands_at_mesh names apart failed Out h old new s = absurd h
 stands_at_mesh names apart failed Memory h old new s = tt
 stands_at_mesh names apart failed (NotYet part) h old new s = absurd h
 
 stands_at_answer : (names : MeshNames) (untaken : Type 0) (r : Refusal) → AnswerRefused untaken r → (old new : Files) → HasBoth names old new → RefusalStands names old new r
+stands_at_answer names untaken (Words fault) h old new s = absurd h
+stands_at_answer names untaken (In2d fault) h old new s = absurd h
+stands_at_answer names untaken (Geometry fault) h old new s = absurd h
 stands_at_answer names untaken (Folder name number) h old new s = absurd h
 stands_at_answer names untaken Out h old new s = s
 stands_at_answer names untaken Memory h old new s = tt
 stands_at_answer names untaken (NotYet part) h old new s = absurd h
 
 pub stands_of : (names : MeshNames) → names.mesh ≢ names.log → (before after : Option Files) (failed : List ℕ → Type 0) (untaken : Type 0) (r : Refusal) → Course names before after failed untaken r → ToldBoth before after (λ old new. RefusalStands names old new r)
-stands_of names apart before after failed untaken r (at_geometry e h) = told_as_before before after (λ old new. RefusalStands names old new r) e (stands_at_geometry names before failed 2 _ names.geometry (inl refl) r h)
-stands_of names apart before after failed untaken r (at_rules e accepted h) = told_as_before before after (λ old new. RefusalStands names old new r) e (stands_at_geometry names before failed 3 _ names.rules (inr refl) r h)
+stands_of names apart before after failed untaken r (at_geometry e h) = told_as_before before after (λ old new. RefusalStands names old new r) e (stands_at_geometry names before (failed names.geometry) r h)
+stands_of names apart before after failed untaken r (at_rules e accepted h) = told_as_before before after (λ old new. RefusalStands names old new r) e (stands_at_rules names before (failed names.rules) r h)
 stands_of names apart before after failed untaken r (at_work e accepted) = told_as_before before after (λ old new. RefusalStands names old new Memory) e (λ files. tt)
 stands_of names apart before after failed untaken r (at_log told h) = told_both_weaker before after (StopsAtLog names) (λ old new. RefusalStands names old new r) (stands_at_log names apart (failed names.log) r h) told
 stands_of names apart before after failed untaken r (at_mesh told h) = told_both_weaker before after (StopsAtMesh names) (λ old new. RefusalStands names old new r) (stands_at_mesh names apart (failed names.mesh) r h) told

@@ -1,75 +1,66 @@
--- What the work between takes and puts gives.
-use Rattle.std.proofs.Common.{◌≡◌, ℕ, ◌<◌, ◌^◌, List, sym, subst, refl, ap, ◌∙◌, arith}
-use Rattle.std.specs.Prelude.{All, None, ℤ, pos}
-use Rattle.std.proofs.lemmas.List.Elements.{All-map}
+-- The run of an accepted geometry covers its domains.
+use Rattle.std.proofs.Common.{◌≡◌, ℕ, ◌<◌, Bool, true, false, nat_eq, List, [], ◌∷◌, map, fold, if◌then◌else◌, sym, subst, refl, ap, ◌∙◌, arith}
+use Rattle.std.specs.Prelude.{All, AllPairs}
+use Rattle.std.specs.Ordering.{nat_cmp}
+use Rattle.std.specs.BTreeSet.{insert_key}
+use Rattle.std.proofs.lemmas.Bool.Decides.{nat_tests}
+use Rattle.std.proofs.lemmas.List.Elements.{All-nil, All-head, All-tail, All-map}
+use Rattle.std.proofs.lemmas.List.Kept.{AllPairs-cons}
+use Rattle.std.proofs.lemmas.Map.Views.{All-insert_key}
+use Rattle.grid_geom.specs.declared.RatPoint.{RatPoint}
 use Rattle.grid_geom.specs.Winding.{wind}
-use Rattle.word_scan.specs.Scan.{words_of}
-use Rattle.in2d_reader.specs.declared.geometry.PointRow.{PointRow}
-use Rattle.in2d_reader.specs.declared.geometry.RawGeometry.{RawGeometry}
-use Rattle.first_form.specs.FirstForm.{IsFirstForm, Corners, geometry_of}
 use Rattle.geom_check.specs.declared.kinds.Segment.{Segment}
-use Rattle.geom_check.specs.declared.placing.Placed.{Placed}
-use Rattle.geom_check.specs.declared.refusal.GeomRefusal.TheVariants.{TooLarge}
-use Rattle.geom_check.specs.Boundary.{IsSegmentOf}
-use Rattle.geom_check.specs.Refused.{IsPlaceRefusal}
-use Rattle.geom_check.specs.Placed.{IsPlaced, segments_of}
-use Rattle.mesh_run.specs.declared.End.TheVariants.{Stuck}
+use Rattle.geom_check.specs.Boundary.{boundary}
+use Rattle.geom_check.specs.Accepted.{IsPlanar, IsSide}
+use Rattle.geom_check.specs.Geometry.{PlanarMap}
+use Rattle.mesh_run.specs.declared.domain_run.DomainRun.{DomainRun}
 use Rattle.mesh_run.specs.Boundary.{whole_pieces}
-use Rattle.mesh_run.specs.Opening.{unmeshed_run}
-use Rattle.mesh_run.specs.Whole.{unmeshed_whole, domain_numbers}
+use Rattle.mesh_run.specs.Opening.{unmeshed_run, front_edges}
+use Rattle.mesh_run.specs.Whole.{domain_numbers, with_domain, sides_of, IsRising}
 use Rattle.mesh_run.proofs.Bounded.{front_is_boundary, whole_boundary}
-use Rattle.netmesh_cli.specs.declared.outcome.Refusal.{Refusal}
-use Rattle.netmesh_cli.specs.declared.outcome.Refusal.TheVariants.{Folder, Out, Memory, NotYet}
-use Rattle.netmesh_cli.specs.Causes.{TextRefused}
-use Rattle.netmesh_cli.specs.Accepted.{IsTriangle, IsRunnable, TurnsLeft, plain_options, run_of, IsWound, IsCovered}
-use Rattle.netmesh_cli.proofs.Placings.{placed_three, placed_once}
+use Rattle.mesh_run.proofs.DomainNumbers.{numbers_rise}
+use Rattle.netmesh_cli.specs.Accepted.{IsOffSegments, IsWound, DoBothWind, IsCovered}
 
--- some row, to stand past the end of a list
-some_row : PointRow
-some_row = record { number = 0; x = record { digits = pos 0; scale = pos 0 }; y = record { digits = pos 0; scale = pos 0 }; maxh = None }
+-- the numbers of domains are above 0
+abbrev IsPositive : ℕ → Type 0
+IsPositive n = 0 < n
 
--- a row that doesn't fit the coarsest shift lets nothing be moved
-pub not_placed : (raw : RawGeometry) (point : ℕ) → IsPlaceRefusal raw (TooLarge point) → (g : Placed) → ¬ IsPlaced raw g
-not_placed raw point refused g is = refused.fails some_row (is.coarsest refused.index some_row refused.in_list)
+with_positive : (b : Bool) (ds : List ℕ) (d : ℕ) → nat_eq d 0 ≡ b → All IsPositive ds → All IsPositive (if b then ds else insert_key nat_cmp ds d)
+with_positive true ds d e all = all
+with_positive false ds d e all = All-insert_key nat_cmp d IsPositive ds all (grind (arith, nat_tests))
 
--- the run of a triangle's sides is stuck, wherever its points are
-sides_stuck : (shift : ℤ) (g : Placed) (t : Corners) → (unmeshed_whole shift plain_options (whole_pieces g.points (segments_of shift (geometry_of t))) (segments_of shift (geometry_of t))).end ≡ Stuck
-sides_stuck shift g t = refl
+all_positive : (ds ns : List ℕ) → All IsPositive ds → All IsPositive (fold with_domain ds ns)
+all_positive ds [] all = all
+all_positive ds (n ∷ ns) all = all_positive (with_domain ds n) ns (with_positive (nat_eq n 0) ds n refl all)
 
-pub triangle_stuck : (words : List (List ℕ)) (raw : RawGeometry) (g : Placed) → IsFirstForm words raw → IsPlaced raw g → (run_of g).end ≡ Stuck
-triangle_stuck words raw g form is =
-    let sides = is.segments ∙ ap (λ (r : RawGeometry). segments_of g.shift r) form.4 in
-    subst (λ (ss : List Segment). (unmeshed_whole g.shift plain_options (whole_pieces g.points ss) ss).end ≡ Stuck) (sym sides) (sides_stuck g.shift g form.1)
+numbers_positive : (segments : List Segment) → All IsPositive (domain_numbers segments)
+numbers_positive segments = all_positive [] (sides_of segments) (All-nil IsPositive)
 
-pub triangle_runnable : (words : List (List ℕ)) (raw : RawGeometry) (g : Placed) → IsFirstForm words raw → IsPlaced raw g → IsRunnable g
-triangle_runnable words raw g form is = let three = placed_three words raw g form is in record {
-  segments = subst (λ (n : ℕ). All (IsSegmentOf n) g.segments) (sym three.points) three.segments;
-  few = subst (λ (n : ℕ). n < 2 ^ 32) (sym three.sides) (omega arith);
-  shift = record { least = is.shift.least; greatest = is.shift.greatest };
+-- the run of a domain
+abbrev pub run_in : PlanarMap → ℕ → DomainRun
+run_in g n = unmeshed_run n g.segments (whole_pieces g.points g.segments)
+
+-- its front winds as its boundary does
+winds : (g : PlanarMap) (n : ℕ) (q : RatPoint) → wind q (front_edges (run_in g n)) ≡ wind q (boundary g.points n g.segments)
+winds g n q = ap (wind q) (front_is_boundary n g.segments (whole_pieces g.points g.segments) ∙ whole_boundary n g.points g.segments)
+
+wound : (g : PlanarMap) → IsPlanar g.points g.segments → (n : ℕ) → 0 < n → IsWound g (run_in g n)
+wound g planar n positive = record {
+  same = λ q off. winds g n q;
+  side = λ q off. subst IsSide (sym (winds g n q)) (planar.winding n positive q off.rational off.off);
 }
 
--- a text has one geometry on the grid, so one that doesn't turn lets none turn
-pub none_turns : (bytes : List ℕ) (raw : RawGeometry) (g : Placed) → ((other : RawGeometry) → IsFirstForm (words_of bytes) other → raw ≡ other) → IsPlaced raw g → ¬ TurnsLeft g.points → (h : Placed) → ¬ IsTriangle bytes h
-none_turns bytes raw g only is turned h triangle =
-    let at : IsPlaced raw h = subst (λ (r : RawGeometry). IsPlaced r h) (sym (only triangle.raw triangle.text)) triangle.placed in
-    turned (subst (λ (p : Placed). TurnsLeft p.points) (sym (placed_once raw g h is at)) triangle.turns)
+apart : (g : PlanarMap) → IsPlanar g.points g.segments → (q : RatPoint) → IsOffSegments g q → (c d : ℕ) → 0 < c → c < d → ¬ DoBothWind q (run_in g c) (run_in g d)
+apart g planar q off c d positive ordered both = planar.separate q off.rational off.off (record { c = c; d = d; positive = positive; ordered = ordered; in_c = sym (winds g c q) ∙ both.first; in_d = sym (winds g d q) ∙ both.second })
 
-pub none_placed : (bytes : List ℕ) (raw : RawGeometry) → ((other : RawGeometry) → IsFirstForm (words_of bytes) other → raw ≡ other) → ((g : Placed) → ¬ IsPlaced raw g) → (h : Placed) → ¬ IsTriangle bytes h
-none_placed bytes raw only none h triangle = none h (subst (λ (r : RawGeometry). IsPlaced r h) (sym (only triangle.raw triangle.text)) triangle.placed)
+all_apart : (g : PlanarMap) → IsPlanar g.points g.segments → (q : RatPoint) → IsOffSegments g q → (ds : List ℕ) → All IsPositive ds → IsRising ds → AllPairs (λ c d. ¬ DoBothWind q c d) (map (run_in g) ds)
+all_apart g planar q off [] positive rising = λ i j d before inside. absurd (omega arith)
+all_apart g planar q off (c ∷ ds) positive rising = AllPairs-cons (λ c d. ¬ DoBothWind q c d) (run_in g c) (map (run_in g) ds)
+    (All-map (λ d. ¬ DoBothWind q (run_in g c) d) (run_in g) ds (λ k d inside. apart g planar q off c _ (All-head IsPositive c ds positive) (rising.0 k d inside)))
+    (all_apart g planar q off ds (All-tail IsPositive c ds positive) rising.1)
 
-pub none_read : (bytes : List ℕ) → ((raw : RawGeometry) → ¬ IsFirstForm (words_of bytes) raw) → (h : Placed) → ¬ IsTriangle bytes h
-none_read bytes none h triangle = none triangle.raw triangle.text
-
--- each domain's front is its boundary
-wound : (g : Placed) (n : ℕ) → IsWound g (unmeshed_run n g.segments (whole_pieces g.points g.segments))
-wound g n q rational off = ap (wind q) (sym (front_is_boundary n g.segments (whole_pieces g.points g.segments) ∙ whole_boundary n g.points g.segments))
-
-pub run_covered : (g : Placed) → IsCovered g
-run_covered g = All-map (IsWound g) (λ n. unmeshed_run n g.segments (whole_pieces g.points g.segments)) (domain_numbers g.segments) (λ k d inside. wound g _)
-
--- a weaker reason why a text is refused
-pub refused_weaker : (part : ℕ) (P Q : Type 0) → (P → Q) → (r : Refusal) → TextRefused part P r → TextRefused part Q r
-refused_weaker part P Q all (Folder name number) h = h
-refused_weaker part P Q all Out h = h
-refused_weaker part P Q all Memory h = h
-refused_weaker part P Q all (NotYet number) h = (h.0, all h.1)
+pub run_covered : (g : PlanarMap) → IsPlanar g.points g.segments → IsCovered g
+run_covered g planar = record {
+  wound = All-map (IsWound g) (run_in g) (domain_numbers g.segments) (λ k d inside. wound g planar _ (numbers_positive g.segments k d inside));
+  separate = λ q off. all_apart g planar q off (domain_numbers g.segments) (numbers_positive g.segments) (numbers_rise g.segments);
+}

@@ -3,7 +3,7 @@ use Rattle.std.specs.Prelude.{◌≡◌, ℕ, ◌≤◌, ◌<◌, List, length, 
 use Rattle.folder_io.specs.Causes.{Told, ToldBoth, GrowsByPrefix}
 use Rattle.folder_io.specs.Names.{Files, held_at}
 use Rattle.netmesh_cli.specs.declared.outcome.Refusal.{Refusal}
-use Rattle.netmesh_cli.specs.declared.outcome.Refusal.TheVariants.{Folder, Out, Memory, NotYet}
+use Rattle.netmesh_cli.specs.declared.outcome.Refusal.TheVariants.{Folder, Out, Memory}
 use Rattle.netmesh_cli.specs.declared.TheConstants.{FILE_LIMIT}
 
 -- more bytes than a file may have are held under the name
@@ -47,12 +47,6 @@ abbrev pub AnswerRefused : Type 0 → Refusal → Type 0
 AnswerRefused failed Out = failed
 AnswerRefused failed Memory = Unit {0}
 AnswerRefused failed _ = ⊥
-
--- why the text of a file is refused: it is not what the part can read
-abbrev pub TextRefused : ℕ → Type 0 → Refusal → Type 0
-TextRefused part rejected (NotYet number) = (number ≡ part) × rejected
-TextRefused part rejected Memory = Unit {0}
-TextRefused part rejected _ = ⊥
 
 -- what is written where an answer is not taken: a prefix of it, or nothing where memory was refused
 abbrev pub AnswerLeaves : List ℕ → Option (List ℕ) → Option (List ℕ) → Refusal → Type 0

@@ -2,7 +2,13 @@ pub mod Words
 pub mod Status
 pub mod Causes
 pub mod Accepted
+pub mod Readings
 pub mod Course
+pub mod Drawn
 pub mod Stands
 pub mod Lines
 pub mod Top
+pub mod CommandLine
+pub mod Reading
+pub mod Readers
+pub mod Commands

@@ -1,11 +1,59 @@
 -- The line that a refusal writes.
-use Rattle.std.specs.Prelude.{ℕ, List, [], ◌++◌, codes}
+--
+-- numbers_line  the line of a kind with numbers
+-- refusal_line  the line of a refusal
+use Rattle.std.specs.Prelude.{ℕ, List, [], ◌∷◌, ◌++◌, codes, ℤ, pos}
 use Rattle.std.specs.Fmt.{decimal}
+use Rattle.text_rows.specs.Rows.{spaced_signed}
+use Rattle.in2d_reader.specs.declared.refusal.In2dRefusal.{In2dRefusal}
+use Rattle.in2d_reader.specs.declared.refusal.In2dRefusal.TheVariants.{Syntax, Number, Curved, TooMany, NumberTwice, UnknownPoint, Memory as NoMemoryThere}
+use Rattle.geom_check.specs.declared.refusal.GeomRefusal.{GeomRefusal}
+use Rattle.geom_check.specs.declared.refusal.GeomRefusal.TheVariants.{NoDomain, TooLarge, SamePlace, SameSides, NoLength, Meet, OpenAt, Side, Overlap, Memory as NoMemoryHere}
+use Rattle.netmesh_cli.specs.declared.words_fault.WordsFault.{WordsFault}
+use Rattle.netmesh_cli.specs.declared.words_fault.WordsFault.TheVariants.{NoVerb, UnknownVerb, Form, Value, SameName}
 use Rattle.netmesh_cli.specs.declared.outcome.Refusal.{Refusal}
-use Rattle.netmesh_cli.specs.declared.outcome.Refusal.TheVariants.{Folder, Out, Memory, NotYet}
+use Rattle.netmesh_cli.specs.declared.outcome.Refusal.TheVariants.{Words, In2d, Geometry, Folder, Out, Memory, NotYet}
+
+-- `refused`, the kind, and the numbers, each after one space
+abbrev pub numbers_line : List ℕ → List ℤ → List ℕ
+numbers_line kind numbers = codes "refused " ++ kind ++ spaced_signed numbers ++ codes "\n"
+
+-- the number of a fault of the words
+abbrev pub words_number : WordsFault → ℕ
+words_number NoVerb = 1
+words_number UnknownVerb = 2
+words_number Form = 3
+words_number Value = 4
+words_number SameName = 5
+
+-- the number of the fault of a geometry's text, and the word, segment or kind of row; want of memory has no line
+abbrev pub in2d_line : In2dRefusal → List ℕ
+in2d_line (Syntax word) = numbers_line (codes "in2d") (pos 1 ∷ pos word ∷ [])
+in2d_line (Number word) = numbers_line (codes "in2d") (pos 2 ∷ pos word ∷ [])
+in2d_line (Curved segment) = numbers_line (codes "in2d") (pos 3 ∷ pos segment ∷ [])
+in2d_line (TooMany what) = numbers_line (codes "in2d") (pos 4 ∷ pos what ∷ [])
+in2d_line (NumberTwice word) = numbers_line (codes "in2d") (pos 5 ∷ pos word ∷ [])
+in2d_line (UnknownPoint segment) = numbers_line (codes "in2d") (pos 6 ∷ pos segment ∷ [])
+in2d_line NoMemoryThere = []
+
+-- the number of a geometry's fault, and its rows, segments, domain and place; want of memory has no line
+abbrev pub geometry_line : GeomRefusal → List ℕ
+geometry_line NoDomain = numbers_line (codes "geometry") (pos 1 ∷ [])
+geometry_line (TooLarge point) = numbers_line (codes "geometry") (pos 2 ∷ pos point ∷ [])
+geometry_line (SamePlace i j) = numbers_line (codes "geometry") (pos 3 ∷ pos i ∷ pos j ∷ [])
+geometry_line (SameSides segment) = numbers_line (codes "geometry") (pos 4 ∷ pos segment ∷ [])
+geometry_line (NoLength segment) = numbers_line (codes "geometry") (pos 5 ∷ pos segment ∷ [])
+geometry_line (Meet i j) = numbers_line (codes "geometry") (pos 6 ∷ pos i ∷ pos j ∷ [])
+geometry_line (OpenAt point domain) = numbers_line (codes "geometry") (pos 7 ∷ pos point ∷ pos domain ∷ [])
+geometry_line (Side domain at) = numbers_line (codes "geometry") (pos 8 ∷ pos domain ∷ at.x ∷ at.y ∷ at.k ∷ [])
+geometry_line (Overlap at) = numbers_line (codes "geometry") (pos 9 ∷ at.x ∷ at.y ∷ at.k ∷ [])
+geometry_line NoMemoryHere = []
 
 -- `refused`, the kind, its number and values; an answer that isn't taken and want of memory have no line
 abbrev pub refusal_line : Refusal → List ℕ
+refusal_line (Words fault) = numbers_line (codes "words") (pos (words_number fault) ∷ [])
+refusal_line (In2d fault) = in2d_line fault
+refusal_line (Geometry fault) = geometry_line fault
 refusal_line (Folder name fault) = codes "refused folder " ++ decimal fault ++ codes " " ++ name ++ codes "\n"
 refusal_line Out = []
 refusal_line Memory = []

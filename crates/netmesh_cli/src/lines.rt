@@ -1,12 +1,15 @@
 //! The printed lines of refusals.
 
-ghost use Rattle.std.specs.Prelude.{◌≡◌, ◌++◌, IfOk, OnOk, string_bytes, codes};
+ghost use Rattle.std.specs.Prelude.{◌≡◌, ◌++◌, ◌∷◌, [], pos, IfOk, OnOk, string_bytes, codes};
 ghost use Rattle.std.specs.Fmt.{decimal};
-ghost use Rattle.netmesh_cli.specs.Lines.{refusal_line};
+ghost use Rattle.netmesh_cli.specs.Lines.{numbers_line, words_number, in2d_line, geometry_line, refusal_line};
 
-use super::Refusal;
+use super::{Refusal, WordsFault};
+use geom_check::GeomRefusal;
+use in2d_reader::In2dRefusal;
 use std::alloc::{AllocError, Global};
 use std::fmt::Write;
+use text_rows::write_spaced_wide;
 
 /// Adds a number in decimal digits.
 fn push_number(text: &mut String, n: u32) -> Result<(), AllocError>
@@ -40,13 +43,139 @@ fn folder_line(alloc: Global, name: &[u8], fault: u32) -> Result<Vec<u8>, AllocE
     Ok(line)
 }
 
+/// The line of a kind of refusal with its numbers.
+fn numbers_line(alloc: Global, kind: &str, numbers: &[i128]) -> Result<Vec<u8>, AllocError>
+    ensures { IfOk result (λ line. line.items ≡ numbers_line kind.now numbers.now) }
+{
+    let mut text = String::new(alloc);
+    text.push_str("refused ")?;
+    text.push_str(kind)?;
+    write_spaced_wide(&mut text, numbers)?;
+    text.push_str("\n")?;
+    Ok(text.into_bytes())
+}
+
+/// The number of a fault of the words.
+fn words_number(fault: WordsFault) -> u8
+    ensures { result ≡ words_number fault }
+{
+    match fault {
+        WordsFault::NoVerb => 1,
+        WordsFault::UnknownVerb => 2,
+        WordsFault::Form => 3,
+        WordsFault::Value => 4,
+        WordsFault::SameName => 5,
+    }
+}
+
+/// The line of words at fault.
+fn words_line(alloc: Global, fault: WordsFault) -> Result<Vec<u8>, AllocError>
+    ensures { IfOk result (λ line. line.items ≡ numbers_line (codes "words") (pos (words_number fault) ∷ [])) }
+{
+    numbers_line(alloc, "words", &[i128::from(words_number(fault))])
+}
+
+/// The line of a geometry's text that is at fault.
+fn in2d_line(alloc: Global, fault: &In2dRefusal) -> Result<Vec<u8>, AllocError>
+    ensures { IfOk result (λ line. line.items ≡ in2d_line fault.now) }
+{
+    match fault {
+        In2dRefusal::Syntax { word } => numbers_line(alloc, "in2d", &[1, *word as i128]),
+        In2dRefusal::Number { word } => numbers_line(alloc, "in2d", &[2, *word as i128]),
+        In2dRefusal::Curved { segment } => numbers_line(alloc, "in2d", &[3, *segment as i128]),
+        In2dRefusal::TooMany { what } => numbers_line(alloc, "in2d", &[4, *what as i128]),
+        In2dRefusal::NumberTwice { word } => numbers_line(alloc, "in2d", &[5, *word as i128]),
+        In2dRefusal::UnknownPoint { segment } => numbers_line(
+            alloc,
+            "in2d",
+            &[6, *segment as i128],
+        ),
+        In2dRefusal::Memory => Ok(Vec::new(alloc)),
+    }
+}
+
+/// The line of a geometry that is at fault.
+fn geometry_line(alloc: Global, fault: &GeomRefusal) -> Result<Vec<u8>, AllocError>
+    ensures { IfOk result (λ line. line.items ≡ geometry_line fault.now) }
+{
+    let kind = "geometry";
+    match fault {
+        GeomRefusal::NoDomain => numbers_line(alloc, kind, &[1]),
+        GeomRefusal::TooLarge { point } => numbers_line(alloc, kind, &[2, *point as i128]),
+        GeomRefusal::SamePlace { i, j } => numbers_line(alloc, kind, &[3, *i as i128, *j as i128]),
+        GeomRefusal::SameSides { segment } => numbers_line(alloc, kind, &[4, *segment as i128]),
+        GeomRefusal::NoLength { segment } => numbers_line(alloc, kind, &[5, *segment as i128]),
+        GeomRefusal::Meet { i, j } => numbers_line(alloc, kind, &[6, *i as i128, *j as i128]),
+        GeomRefusal::OpenAt { point, domain } => {
+            numbers_line(alloc, kind, &[7, *point as i128, *domain as i128])
+        }
+        GeomRefusal::Side { domain, at } => {
+            numbers_line(alloc, kind, &[8, *domain as i128, at.x, at.y, at.k])
+        }
+        GeomRefusal::Overlap { at } => numbers_line(alloc, kind, &[9, at.x, at.y, at.k]),
+        GeomRefusal::Memory => Ok(Vec::new(alloc)),
+    }
+}
+
 /// The line of a refusal: `refused`, its kind, its number and its values.
 pub fn line_of(alloc: Global, refusal: &Refusal) -> Result<Vec<u8>, AllocError>
     ensures { IfOk result (λ line. line.items ≡ refusal_line refusal.now) }
 {
     match refusal {
+        Refusal::Words(fault) => words_line(alloc, *fault),
+        Refusal::In2d(fault) => in2d_line(alloc, fault),
+        Refusal::Geometry(fault) => geometry_line(alloc, fault),
         Refusal::Folder { name, fault } => folder_line(alloc, name.as_slice(), *fault),
         Refusal::Out | Refusal::Memory => Ok(Vec::new(alloc)),
         Refusal::NotYet { part } => not_yet_line(alloc, *part),
+    }
+}
+
+#[cfg(test)]
+mod tests {
+    use super::*;
+    use grid_geom::RatPoint;
+    use std::test::Fail;
+
+    /// Whether the refusal writes this line.
+    fn writes(alloc: Global, refusal: Refusal, line: &str) -> Result<bool, AllocError> {
+        let written = line_of(alloc, &refusal)?;
+        Ok(written.as_slice() == line.as_bytes())
+    }
+
+    #[test]
+    fn lines_of_words_and_geometry_texts(rt: HostRuntime) -> Result<(), Fail> {
+        let alloc = rt.alloc();
+        let no_verb = Refusal::Words(WordsFault::NoVerb);
+        assert!(rt; writes(alloc, no_verb, "refused words 1\n")?);
+        let same_name = Refusal::Words(WordsFault::SameName);
+        assert!(rt; writes(alloc, same_name, "refused words 5\n")?);
+        let too_many = Refusal::In2d(In2dRefusal::TooMany { what: 2 });
+        assert!(rt; writes(alloc, too_many, "refused in2d 4 2\n")?);
+        let unknown = Refusal::In2d(In2dRefusal::UnknownPoint { segment: 10 });
+        assert!(rt; writes(alloc, unknown, "refused in2d 6 10\n")?);
+        Ok(())
+    }
+
+    #[test]
+    fn lines_of_geometries(rt: HostRuntime) -> Result<(), Fail> {
+        let alloc = rt.alloc();
+        let none = Refusal::Geometry(GeomRefusal::NoDomain);
+        assert!(rt; writes(alloc, none, "refused geometry 1\n")?);
+        let open = Refusal::Geometry(GeomRefusal::OpenAt {
+            point: 3,
+            domain: 1,
+        });
+        assert!(rt; writes(alloc, open, "refused geometry 7 3 1\n")?);
+        let at = RatPoint {
+            x: -160_000,
+            y: 320_000,
+            k: 1,
+        };
+        let side = Refusal::Geometry(GeomRefusal::Side { domain: 1, at });
+        assert!(rt; writes(alloc, side, "refused geometry 8 1 -160000 320000 1\n")?);
+        let overlap = Refusal::Geometry(GeomRefusal::Overlap { at });
+        assert!(rt; writes(alloc, overlap, "refused geometry 9 -160000 320000 1\n")?);
+        Ok(())
     }
 }

@@ -1,6 +1,7 @@
-//! Which mesh, log and line come of the files that the words name, and if none, why?
+//! Which files and which answer come of the files that the words name, and if none, why?
 //!
-//! So far one triangle and a rule file without rules are meshed.
+//! So far each accepted geometry is written by `geom`, and each that gives no size is meshed by `mesh`,
+//! by a rule file without rules.
 //!
 //! 1. The words name the files. Each file is taken and read before the next is taken.
 //! 2. The log is put before the mesh, and the answer is written last.
@@ -9,14 +10,26 @@
 //! 4. The work between takes and puts is done on values, so what is put is a function of what is held.
 #![tactic(auto)]
 
+mod areas;
+mod asked;
+mod command;
 mod files;
+mod forms;
+mod geom;
+mod geometry;
+pub mod geometry_laws;
+pub mod laws;
 mod lines;
 mod mesh;
 mod outcome;
+mod reader;
+mod settings;
 mod top;
-mod words;
+mod values;
+mod words_fault;
 mod work;
 
+pub use command::{Command, MeshOptions, Verb, read_words};
 use folder_io::{FolderDisk, SinkStd};
 pub use mesh_run::{Gate, NoGate};
 pub use outcome::{Outcome, Refusal};
@@ -25,7 +38,12 @@ use std::env;
 use std::io::{self, ErrorKind};
 use std::process::ExitCode;
 pub use top::netmesh;
+pub use words_fault::WordsFault;
 
+#[cfg(test)]
+mod command_tests;
+#[cfg(test)]
+mod geom_tests;
 #[cfg(test)]
 mod tests;
 

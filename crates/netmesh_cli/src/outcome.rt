@@ -4,6 +4,9 @@ ghost use Rattle.std.specs.Prelude.{◌≡◌};
 ghost use Rattle.netmesh_cli.specs.declared.outcome.Refusal.TheVariants.{Memory as NoMemory};
 ghost use Rattle.netmesh_cli.specs.Status.{status_of, refusal_status};
 
+use super::WordsFault;
+use geom_check::GeomRefusal;
+use in2d_reader::In2dRefusal;
 use std::alloc::AllocError;
 use word_scan::Name;
 
@@ -29,6 +32,12 @@ pub enum Outcome {
 /// Why a call of the program was refused.
 #[derive(Debug, Drop)]
 pub enum Refusal {
+    /// The words of the call are at fault.
+    Words(WordsFault),
+    /// The geometry's text is none.
+    In2d(In2dRefusal),
+    /// The geometry is not accepted.
+    Geometry(GeomRefusal),
     /// The folder refused the file of this name: 1 a call failed, 2 the file is longer than its
     /// limit, 3 there is no such file.
     Folder { name: Name, fault: u32 },
@@ -36,7 +45,7 @@ pub enum Refusal {
     Out,
     /// There was no memory left.
     Memory,
-    /// A form that is not built yet: 1 words, 2 a geometry, 3 rules.
+    /// A form that is not built yet: 1 a verb or an option, 2 a geometry that gives a size, 3 rules.
     NotYet { part: u32 },
 }
 
@@ -54,6 +63,8 @@ impl Refusal {
         ensures { result ≡ refusal_status self.now }
     {
         match self {
+            Refusal::Words(_) => 2,
+            Refusal::In2d(_) | Refusal::Geometry(_) => 3,
             Refusal::Folder { .. } => 5,
             Refusal::Out => 6,
             Refusal::Memory => 7,
@@ -63,8 +74,8 @@ impl Refusal {
 }
 
 impl Outcome {
-    /// The status that the program ends with: 0 where the work is done, 1 stuck, 5 a folder's
-    /// refusal, 6 the answer not taken, 7 no memory, 8 stopped, 9 a bad verdict, 12 a form that is
+    /// The status that the program ends with: 0 where the work is done, 1 stuck, 2 words at fault,
+    /// 3 a geometry that isn't accepted, 5 a folder's refusal, 6 the answer not taken, 7 no memory, 8 stopped, 9 a bad verdict, 12 a form that is
     /// not built yet.
     pub fn status(&self) -> u8
         ensures { result ≡ status_of self.now }

@@ -1,12 +1,12 @@
-//! The program on triangles, over folders and sinks in memory that fail where they are told to, and
-//! over ones that never fail. Expected texts are written out by hand.
+//! The verb `mesh`, over folders and sinks in memory that fail where they are told to, and over ones
+//! that never fail. Expected texts are written out by hand.
 use crate::{NoGate, Outcome, netmesh};
 use folder_io::{FolderMem, FolderSure, SinkMem, SinkSure};
 use std::alloc::{AllocError, Global};
 use std::test::Fail;
 use std::thread::Threads;
 
-const TRIANGLE: &str =
+pub const TRIANGLE: &str =
     "splinecurves2dv2\n1\npoints\n1 0 0\n2 1 0\n3 0 1\nsegments\n1 0 2 1 2\n1 0 2 2 3\n1 0 2 3 1\n";
 
 const LOG: &str =
@@ -17,11 +17,11 @@ const MESH: &str =
 
 const LINE: &str = "stuck domains 1 applications 0 points 3 elements 0 front 3\n";
 
-fn text(alloc: Global, text: &str) -> Result<String, AllocError> {
+pub fn text(alloc: Global, text: &str) -> Result<String, AllocError> {
     String::from_str(alloc, text)
 }
 
-fn bytes(alloc: Global, text: &str) -> Result<Vec<u8>, AllocError> {
+pub fn bytes(alloc: Global, text: &str) -> Result<Vec<u8>, AllocError> {
     text.as_bytes().to_vec(alloc)
 }
 
@@ -102,15 +102,48 @@ fn answer<R: Threads + Sync>(
     Ok((outcome.status(), out))
 }
 
+const SQUARES: &str =
+    "splinecurves2dv2\n1\npoints\n1 0 0\n2 1 0\n3 2 0\n4 2 1\n5 1 1\n6 0 1\nsegments\n1 0 2 1 2\n2 0 2 2 3\n2 0 2 3 4\n2 0 2 4 5\n1 0 2 5 6\n1 0 2 6 1\n1 2 2 2 5\n";
+
+const SQUARES_LOG: &str =
+    "netmeshlog 1\nrun 3 2097152 300 10 -\ndomain 1 4 4 0 4 stuck\np 0 0\np 64000 0\np 64000 64000\np 0 64000\nl 1 2\nl 3 4\nl 4 1\nl 2 3\nf 1 1 2\nf 2 3 4\nf 3 4 1\nf 4 2 3\ndomain 2 4 4 0 4 stuck\np 64000 0\np 128000 0\np 128000 64000\np 64000 64000\nl 1 2\nl 2 3\nl 3 4\nl 4 1\nf 1 1 2\nf 2 2 3\nf 3 3 4\nf 4 4 1\nend\n";
+
+#[test]
+fn two_squares_with_a_common_side_are_stuck_in_two_domains(rt: HostRuntime) -> Result<(), Fail> {
+    let alloc = rt.alloc();
+    let mut held = folder(alloc, SQUARES, "", &[])?;
+    let mut out = SinkMem::new(alloc, &[])?;
+    let outcome = netmesh(
+        &rt,
+        alloc,
+        &mesh_words(alloc)?,
+        &mut held,
+        &mut out,
+        &NoGate,
+    );
+    assert_eq!(rt; outcome.status(), 1);
+    assert_eq!(rt; held.get("l"), Some(SQUARES_LOG.as_bytes()));
+    assert_eq!(rt;
+        out.written(),
+        b"stuck domains 2 applications 0 points 6 elements 0 front 8\n".as_slice()
+    );
+    Ok(())
+}
+
 #[test]
 fn refusals_write_their_line(rt: HostRuntime) -> Result<(), Fail> {
     let clockwise =
         "splinecurves2dv2 1 points 1 0 0 2 0 1 3 1 0 segments 1 0 2 1 2 1 0 2 2 3 1 0 2 3 1";
     let cases = [
         (TRIANGLE, "rule", 12, "refused notyet 3\n"),
-        (clockwise, "", 12, "refused notyet 2\n"),
-        ("", "", 12, "refused notyet 2\n"),
-        ("-", "", 12, "refused notyet 2\n"),
+        (
+            clockwise,
+            "rule",
+            3,
+            "refused geometry 8 1 160000 320000 1\n",
+        ),
+        ("", "rule", 3, "refused in2d 1 1\n"),
+        ("-", "", 3, "refused in2d 1 1\n"),
     ];
     for (geometry, rules, status, line) in cases {
         let (found, out) = answer(&rt, rt.alloc(), geometry, rules, &[])?;
@@ -120,6 +153,26 @@ fn refusals_write_their_line(rt: HostRuntime) -> Result<(), Fail> {
     let (failed, out) = answer(&rt, rt.alloc(), TRIANGLE, "", &[3])?;
     assert_eq!(rt; failed, 5);
     assert_eq!(rt; out.written(), b"refused folder 1 l\n".as_slice());
+    Ok(())
+}
+
+#[test]
+fn a_size_is_refused_before_the_rules_and_none_has_no_effect(rt: HostRuntime) -> Result<(), Fail> {
+    let sized = [
+        "splinecurves2dv2 1 points 1 0 0 -maxh=1e-9 2 1 0 3 0 1 segments 1 0 2 1 2 1 0 2 2 3 1 0 2 3 1",
+        "splinecurves2dv2 1 points 1 0 0 2 1 0 3 0 1 segments 1 0 2 1 2 1 0 2 2 3 -maxh=2 1 0 2 3 1",
+        "splinecurves2dv2 1 points 1 0 0 2 1 0 3 0 1 segments 1 0 2 1 2 1 0 2 2 3 1 0 2 3 1 materials 2 steel -maxh=1",
+    ];
+    for geometry in sized {
+        let (status, out) = answer(&rt, rt.alloc(), geometry, "rule", &[])?;
+        assert_eq!(rt; status, 12);
+        assert_eq!(rt; out.written(), b"refused notyet 2\n".as_slice());
+    }
+    let unsized_text =
+        "splinecurves2dv2 1 points 1 0 0 -maxh=0 2 1 0 3 0 1 segments 1 0 2 1 2 1 0 2 2 3 -maxh=-1 1 0 2 3 1";
+    let (status, out) = answer(&rt, rt.alloc(), unsized_text, "", &[])?;
+    assert_eq!(rt; status, 1);
+    assert_eq!(rt; out.written(), LINE.as_bytes());
     Ok(())
 }
 
@@ -188,13 +241,64 @@ fn a_geometry_past_its_limit_or_absent_is_named(rt: HostRuntime) -> Result<(), F
     let unknown = netmesh(&rt, alloc, &[], &mut none, &mut out, &NoGate);
     assert_eq!(rt;
         (long.status(), absent.status(), unknown.status()),
-        (5, 5, 12)
+        (5, 5, 2)
     );
     assert_eq!(rt;
         out.written(),
-        b"refused folder 2 g\nrefused folder 3 g\nrefused notyet 1\n".as_slice()
+        b"refused folder 2 g\nrefused folder 3 g\nrefused words 1\n".as_slice()
     );
     assert_eq!(rt; none.faults(), 0);
+    Ok(())
+}
+
+#[test]
+fn words_at_fault_and_words_that_ask_for_what_is_not_built_are_refused(
+    rt: HostRuntime,
+) -> Result<(), Fail> {
+    let alloc = rt.alloc();
+    let cases = [
+        (
+            ["mash", "g", "r", "m", "l"].as_slice(),
+            2,
+            "refused words 2\n",
+        ),
+        (["mesh", "g", "r", "m"].as_slice(), 2, "refused words 3\n"),
+        (
+            ["mesh", "g", "r", "x", "x"].as_slice(),
+            2,
+            "refused words 5\n",
+        ),
+        (
+            ["mesh", "g", "r", "m", "l", "--class", "17"].as_slice(),
+            2,
+            "refused words 4\n",
+        ),
+        (
+            ["mesh", "g", "r", "m", "l", "--class", "16"].as_slice(),
+            12,
+            "refused notyet 1\n",
+        ),
+        (
+            ["mesh", "--maxh=1", "g", "r", "m", "l"].as_slice(),
+            12,
+            "refused notyet 1\n",
+        ),
+        (["gen", "1", "1"].as_slice(), 12, "refused notyet 1\n"),
+        (["rules", "r"].as_slice(), 12, "refused notyet 1\n"),
+        (["geom"].as_slice(), 2, "refused words 3\n"),
+    ];
+    for (words, status, line) in cases {
+        let mut listed = Vec::new(alloc);
+        for word in words {
+            listed.push(text(alloc, word)?)?;
+        }
+        let mut held = folder(alloc, TRIANGLE, "", &[])?;
+        let mut out = SinkMem::new(alloc, &[])?;
+        let outcome = netmesh(&rt, alloc, &listed, &mut held, &mut out, &NoGate);
+        assert_eq!(rt; outcome.status(), status);
+        assert_eq!(rt; out.written(), line.as_bytes());
+        assert_eq!(rt; held.get("l"), None);
+    }
     Ok(())
 }
 

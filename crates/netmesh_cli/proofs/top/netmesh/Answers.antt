@@ -1,21 +1,44 @@
-use Rattle.netmesh_cli.specs.Words.{names_of}
-use Rattle.netmesh_cli.proofs.Tops.{stuck_answers, refused_answers, refused_exactlies, stuck_exactlies}
+use Rattle.netmesh_cli.specs.Words.{names_of, mesh_task}
+use Rattle.netmesh_cli.specs.Commands.{GeomOf}
+use Rattle.netmesh_cli.proofs.Exclusion.{never_both}
+use Rattle.netmesh_cli.proofs.Askings.{asked_is, not_asked, answer_at_fault, answer_not_built, mesh_is_built, not_unbuilt, mesh_answers, mesh_exactlies, geom_answers, geom_exactlies}
 use Rattle.netmesh_cli.proofs.top.netmesh.Goals as goal
 
-pub returns-in-Ok-clause-unknown_words : goal.returns-in-Ok-clause-unknown_words
-returns-in-Ok-clause-unknown_words g c = λ unknown. absurd (unknown (names_of c.in-Some.names) c.in-Some.ensures.form)
+pub returns-in-Ok-Mesh-clause-words_at_fault : goal.returns-in-Ok-Mesh-clause-words_at_fault
+returns-in-Ok-Mesh-clause-words_at_fault g c = λ fault is. absurd (never_both _ (mesh_task (names_of c.in-Ok-Mesh.files)) fault (asked_is _ _ _ c.in-Ok-Mesh.field-0-is c.in-Ok-Mesh.ensures.asked) is)
 
-pub returns-in-Err-clause-unknown_words : goal.returns-in-Err-clause-unknown_words
-returns-in-Err-clause-unknown_words g c = λ unknown. absurd (unknown (names_of c.in-Some.names) c.in-Some.ensures.form)
+pub returns-in-Ok-Mesh-clause-words_not_built : goal.returns-in-Ok-Mesh-clause-words_not_built
+returns-in-Ok-Mesh-clause-words_not_built g c = λ ask. absurd (not_unbuilt _ (mesh_task (names_of c.in-Ok-Mesh.files)) (mesh_is_built (names_of c.in-Ok-Mesh.files)) (asked_is _ _ _ c.in-Ok-Mesh.field-0-is c.in-Ok-Mesh.ensures.asked) ask)
 
-pub returns-in-Ok-clause-mesh : goal.returns-in-Ok-clause-mesh
-returns-in-Ok-clause-mesh g c = stuck_answers _ (names_of c.in-Some.names) c.in-Some.ensures.form _ _ _ _ _ _ c.in-Ok.ensures.meshed
+pub returns-in-Ok-Mesh-clause-mesh : goal.returns-in-Ok-Mesh-clause-mesh
+returns-in-Ok-Mesh-clause-mesh g c = mesh_answers _ (names_of c.in-Ok-Mesh.files) (asked_is _ _ _ c.in-Ok-Mesh.field-0-is c.in-Ok-Mesh.ensures.asked) _ _ _ _ _ _ _ c.run_mesh.ensures.answer
 
-pub returns-in-Ok-clause-exactly : goal.returns-in-Ok-clause-exactly
-returns-in-Ok-clause-exactly g c = stuck_exactlies _ (names_of c.in-Some.names) c.in-Some.ensures.form _ _ _ _ _ _ c.in-Ok.ensures.meshed
+pub returns-in-Ok-Mesh-clause-mesh_exactly : goal.returns-in-Ok-Mesh-clause-mesh_exactly
+returns-in-Ok-Mesh-clause-mesh_exactly g c = mesh_exactlies _ (names_of c.in-Ok-Mesh.files) (asked_is _ _ _ c.in-Ok-Mesh.field-0-is c.in-Ok-Mesh.ensures.asked) _ _ _ _ c.run_mesh.ensures.exactly
+
+pub returns-in-Ok-Geom-clause-words_at_fault : goal.returns-in-Ok-Geom-clause-words_at_fault
+returns-in-Ok-Geom-clause-words_at_fault g c = λ fault is. absurd (never_both _ (GeomOf c.in-Ok-Geom.name.now) fault (asked_is _ _ _ c.in-Ok-Geom.field-0-is c.in-Ok-Geom.ensures.asked) is)
+
+pub returns-in-Ok-Geom-clause-geom : goal.returns-in-Ok-Geom-clause-geom
+returns-in-Ok-Geom-clause-geom g c = geom_answers _ c.in-Ok-Geom.name.now (asked_is _ _ _ c.in-Ok-Geom.field-0-is c.in-Ok-Geom.ensures.asked) _ _ _ _ _ _ _ c.run_geom.ensures.answer
+
+pub returns-in-Ok-Geom-clause-geom_exactly : goal.returns-in-Ok-Geom-clause-geom_exactly
+returns-in-Ok-Geom-clause-geom_exactly g c = geom_exactlies _ c.in-Ok-Geom.name.now (asked_is _ _ _ c.in-Ok-Geom.field-0-is c.in-Ok-Geom.ensures.asked) _ _ _ _ c.run_geom.ensures.exactly
+
+pub returns-in-Err-clause-words_at_fault : goal.returns-in-Err-clause-words_at_fault
+returns-in-Err-clause-words_at_fault g c = answer_at_fault _ _ _ _ _ _ _ c.in-Err.ensures.refused c.tell.ensures.told
+
+pub returns-in-Err-clause-words_not_built : goal.returns-in-Err-clause-words_not_built
+returns-in-Err-clause-words_not_built g c = answer_not_built _ _ _ _ _ _ _ c.in-Err.ensures.refused c.tell.ensures.told
 
 pub returns-in-Err-clause-mesh : goal.returns-in-Err-clause-mesh
-returns-in-Err-clause-mesh g c = refused_answers _ (names_of c.in-Some.names) c.in-Some.ensures.form _ _ _ _ _ _ _ _ _ _ _ c.mesh.ensures.rises_out c.tell-in-Err.ensures.rises c.in-Err.ensures.course c.in-Err.ensures.written c.tell-in-Err.ensures.told
+returns-in-Err-clause-mesh g c = λ names asked. absurd (not_asked _ (mesh_task names) (mesh_is_built names) asked c.in-Err.refusal c.in-Err.ensures.refused)
 
-pub returns-in-Err-clause-exactly : goal.returns-in-Err-clause-exactly
-returns-in-Err-clause-exactly g c = refused_exactlies _ (names_of c.in-Some.names) c.in-Some.ensures.form _ _ _ _ _ _ _ _ _ _ _ _ _ c.mesh.ensures.rises_out c.tell-in-Err.ensures.rises c.in-Err.ensures.course c.in-Err.ensures.written c.tell-in-Err.ensures.told
+pub returns-in-Err-clause-mesh_exactly : goal.returns-in-Err-clause-mesh_exactly
+returns-in-Err-clause-mesh_exactly g c = λ names asked. absurd (not_asked _ (mesh_task names) (mesh_is_built names) asked c.in-Err.refusal c.in-Err.ensures.refused)
+
+pub returns-in-Err-clause-geom : goal.returns-in-Err-clause-geom
+returns-in-Err-clause-geom g c = λ name asked. absurd (not_asked _ (GeomOf name) (λ h. h) asked c.in-Err.refusal c.in-Err.ensures.refused)
+
+pub returns-in-Err-clause-geom_exactly : goal.returns-in-Err-clause-geom_exactly
+returns-in-Err-clause-geom_exactly g c = λ name asked. absurd (not_asked _ (GeomOf name) (λ h. h) asked c.in-Err.refusal c.in-Err.ensures.refused)

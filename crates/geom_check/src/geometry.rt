@@ -1,0 +1,88 @@
+// An accepted geometry.
+
+ghost use Rattle.std.specs.Prelude.{◌≡◌};
+ghost use Rattle.geom_check.specs.Geometry.{PlanarMap, IsGeometry};
+
+use crate::kinds::{Domain, Domains, Segment, Segments, Source, Sources};
+use grid_geom::{Point, Points};
+use std::marker::Model;
+
+/// An accepted geometry on the grid. It keeps in its type that it is one.
+#[derive(Debug, Drop)]
+pub struct Geometry {
+    shift: i32,
+    points: Points,
+    segments: Segments,
+    flagged: Sources,
+    domains: Domains,
+}
+
+impl Model for Geometry {
+    ghost use Rattle.geom_check.specs.Geometry.{PlanarMap, IsGeometry};
+
+    ghost Value = { PlanarMap };
+
+    ghost view = { λ g. record { shift = g.shift; points = g.points; segments = g.segments; flagged = g.flagged; domains = g.domains } };
+
+    ghost invariant = { λ g. IsGeometry (record { shift = g.shift; points = g.points; segments = g.segments; flagged = g.flagged; domains = g.domains }) };
+}
+
+impl Geometry {
+    /// The geometry of these parts. Takes no memory.
+    pub(crate) fn new(
+        shift: i32,
+        points: Points,
+        segments: Segments,
+        flagged: Sources,
+        domains: Domains,
+    ) -> Geometry
+        requires { IsGeometry (record { shift = shift; points = points; segments = segments; flagged = flagged; domains = domains }) }
+        ensures { result ≡ record { shift = shift; points = points; segments = segments; flagged = flagged; domains = domains } }
+    {
+        Geometry {
+            shift,
+            points,
+            segments,
+            flagged,
+            domains,
+        }
+    }
+
+    /// The file's shift, from -6 to 8: one length of the file is 64 * 10 ^ shift grid steps.
+    pub fn shift(&self) -> i32
+        ensures value { result ≡ self.now.shift }
+        ensures accepted { IsGeometry self.now }
+    {
+        self.shift
+    }
+
+    /// The points, in the order of the file's rows.
+    pub fn points(&self) -> &[Point]
+        ensures value { result.now ≡ self.now.points }
+        ensures accepted { IsGeometry self.now }
+    {
+        self.points.as_slice()
+    }
+
+    /// The segments, in the order of the file's rows.
+    pub fn segments(&self) -> &[Segment]
+        ensures value { result.now ≡ self.now.segments }
+        ensures accepted { IsGeometry self.now }
+    {
+        self.segments.as_slice()
+    }
+
+    /// The points that bound the sizes around them, in the order of the file's rows.
+    pub fn flagged(&self) -> &[Source]
+        ensures { result.now ≡ self.now.flagged }
+    {
+        self.flagged.as_slice()
+    }
+
+    /// The domains that segments name, rising.
+    pub fn domains(&self) -> &[Domain]
+        ensures { result.now ≡ self.now.domains }
+    {
+        self.domains.as_slice()
+    }
+}

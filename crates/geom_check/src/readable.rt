@@ -1,0 +1,81 @@
+// Whether a geometry is within a reader's ranges: what a test makes sure of before it checks one.
+ghost use Rattle.std.specs.Prelude.{◌≡◌, ◌==◌, IsTrue, IsSome, All};
+ghost use Rattle.std.specs.List.{list_any};
+ghost use Rattle.geom_check.specs.Placed.{IsReadable, IsReadableNumber, IsReadableIfAny, IsReadablePoint, IsReadableSegment, IsReadableMaterial, row_in};
+
+use in2d_reader::{MaterialRow, PointRow, RawGeometry, SegmentRow};
+use word_scan::Dec;
+
+fn is_readable_number(v: &Dec) -> bool
+    ensures { IsTrue result → IsReadableNumber v.now }
+{
+    v.digits.unsigned_abs() < 10u128.pow(30) && v.scale >= -99 && v.scale <= 99
+}
+
+fn is_readable_if_any(maxh: &Option<Dec>) -> bool
+    ensures { IsTrue result → IsReadableIfAny maxh.now }
+{
+    match maxh {
+        Some(v) => is_readable_number(v),
+        None => true,
+    }
+}
+
+fn is_readable_point(row: &PointRow) -> bool
+    ensures { IsTrue result → IsReadablePoint row.now }
+{
+    is_readable_number(&row.x) && is_readable_number(&row.y) && is_readable_if_any(&row.maxh)
+}
+
+fn has_number(points: &[PointRow], number: u32) -> bool
+    ensures { result ≡ list_any (λ row. row.number == number) points.now }
+{
+    points.iter().any(|row| row.number == number)
+}
+
+#[tactic(auto, using(crate::proofs::KnownRows::row_is_known))]
+fn is_known(points: &[PointRow], number: u32) -> bool
+    ensures { IsTrue result → IsSome (row_in points.now number) }
+{
+    has_number(points, number)
+}
+
+fn is_readable_segment(points: &[PointRow], row: &SegmentRow) -> bool
+    ensures { IsTrue result → IsReadableSegment points.now row.now }
+{
+    is_known(points, row.p)
+        && is_known(points, row.q)
+        && is_readable_if_any(&row.maxh)
+        && row.left <= 64
+        && row.right <= 64
+}
+
+fn are_readable_points(rows: &[PointRow]) -> bool
+    ensures { IsTrue result → All IsReadablePoint rows.now }
+{
+    rows.iter().all(|row| is_readable_point(row))
+}
+
+fn are_readable_segments(points: &[PointRow], rows: &[SegmentRow]) -> bool
+    ensures { IsTrue result → All (IsReadableSegment points.now) rows.now }
+{
+    rows.iter().all(|row| is_readable_segment(points, row))
+}
+
+fn are_readable_materials(rows: &[MaterialRow]) -> bool
+    ensures { IsTrue result → All IsReadableMaterial rows.now }
+{
+    rows.iter().all(|row| is_readable_if_any(&row.maxh))
+}
+
+pub fn is_readable(raw: &RawGeometry) -> bool
+    ensures { IsTrue result → IsReadable raw.now }
+{
+    let points = raw.points.as_slice();
+    let segments = raw.segments.as_slice();
+    points.len() <= 4096
+        && segments.len() <= 4096
+        && are_readable_points(points)
+        && are_readable_segments(points, segments)
+        && are_readable_materials(raw.materials.as_slice())
+}

@@ -1,0 +1,61 @@
+-- A geometry that the reader gives is one that can be checked.
+use Rattle.std.proofs.Common.{◌≡◌, ℕ, ◌+◌, ◌≤◌, ◌==◌, ◌||◌, Bool, true, false, List, [], ◌∷◌, cond, refl, sym, ap, ◌∙◌, arith, inl, inr}
+use Rattle.std.specs.Prelude.{Option, None, Some, IsSome, IfSome, All, unsigned_abs, ℤ, pos, negsuc, ◌≤ℤ◌}
+use Rattle.std.specs.List.{AllByRecursion, position_from}
+use Rattle.std.proofs.lemmas.Int.{ints}
+use Rattle.std.proofs.lemmas.Bool.{cases_eq, eq-eqb, ne_eqb}
+use Rattle.std.proofs.lemmas.List.Elements.{All-nil, All-cons}
+use Rattle.word_scan.specs.declared.decimals.Dec.{Dec}
+use Rattle.in2d_reader.specs.declared.geometry.PointRow.{PointRow}
+use Rattle.in2d_reader.specs.declared.geometry.SegmentRow.{SegmentRow}
+use Rattle.in2d_reader.specs.declared.geometry.MaterialRow.{MaterialRow}
+use Rattle.in2d_reader.specs.declared.geometry.RawGeometry.{RawGeometry}
+use Rattle.in2d_reader.specs.Grammar.{is_known, HasEnds}
+use Rattle.in2d_reader.specs.Normal.{IsDec, IsPointRow, IsSegmentRow, IsMaterialRow, CanPrint}
+use Rattle.geom_check.specs.Placed.{IsReadable, IsReadableNumber, IsReadablePoint, IsReadableSegment, IsReadableMaterial, IsReadableIfAny}
+
+scale_least : (z : ℤ) → unsigned_abs z ≤ 99 → negsuc 98 ≤ℤ z
+scale_least z h = omega (arith, ints)
+
+scale_greatest : (z : ℤ) → unsigned_abs z ≤ 99 → z ≤ℤ pos 99
+scale_greatest z h = omega (arith, ints)
+
+number_readable : (v : Dec) → IsDec v → IsReadableNumber v
+number_readable v is = record { digits = is.digits; scale_least = scale_least v.scale is.scale; scale_greatest = scale_greatest v.scale is.scale }
+
+size_readable : (v : Option Dec) → IfSome v IsDec → IsReadableIfAny v
+size_readable None is = tt
+size_readable (Some v) is = number_readable v is
+
+-- a number that is known has a row
+known_from : (rows : List PointRow) (n k : ℕ) → is_known n rows ≡ true → IsSome (position_from (λ row. row.number == n) k rows)
+known_from [] n k known = absurd (cc)
+known_from (row ∷ rows) n k known = elim (cases_eq n row.number) [
+  | inl e ↦ rw (eq-eqb row.number n (sym e)) refl
+  | inr ne ↦ by (row.number == n) _ (known_from rows n (k + 1) (sym (ap (λ (b : Bool). b || is_known n rows) (ne_eqb n row.number ne)) ∙ known))
+]
+  where
+    by : (b : Bool) (later : Option ℕ) → IsSome later → IsSome (cond b (Some k) later)
+    by true later h = refl
+    by false later h = h
+
+all_points : (rows : List PointRow) → AllByRecursion IsPointRow rows → All IsReadablePoint rows
+all_points [] are = All-nil IsReadablePoint
+all_points (row ∷ rows) are = All-cons IsReadablePoint row rows (record { x = number_readable row.x are.0.x; y = number_readable row.y are.0.y; maxh = size_readable row.maxh are.0.maxh }) (all_points rows are.1)
+
+all_segments : (points : List PointRow) (rows : List SegmentRow) → AllByRecursion IsSegmentRow rows → AllByRecursion (HasEnds points) rows → All (IsReadableSegment points) rows
+all_segments points [] are have = All-nil (IsReadableSegment points)
+all_segments points (row ∷ rows) are have = All-cons (IsReadableSegment points) row rows (record { p_known = known_from points row.p 1 have.0.0; q_known = known_from points row.q 1 have.0.1; maxh = size_readable row.maxh are.0.maxh; left = are.0.left; right = are.0.right }) (all_segments points rows are.1 have.1)
+
+all_materials : (rows : List MaterialRow) → AllByRecursion IsMaterialRow rows → All IsReadableMaterial rows
+all_materials [] are = All-nil IsReadableMaterial
+all_materials (row ∷ rows) are = All-cons IsReadableMaterial row rows (size_readable row.maxh are.0.maxh) (all_materials rows are.1)
+
+pub readable : (raw : RawGeometry) → CanPrint raw → IsReadable raw
+readable raw can = record {
+  few_points = can.fits.within.points;
+  few_segments = can.fits.within.segments;
+  points = all_points raw.points can.points;
+  segments = all_segments raw.points raw.segments can.segments can.fits.known;
+  materials = all_materials raw.materials can.materials;
+}

@@ -1,0 +1,5 @@
+use Rattle.netmesh_cli.proofs.Readings.{one_reading}
+use Rattle.netmesh_cli.proofs.laws.one_reading.Goals as goal
+
+pub returns : goal.returns
+returns c = one_reading

@@ -1,0 +1,49 @@
+//! What the words of a call ask for, where that is built.
+
+ghost use Rattle.std.specs.Prelude.{◌≡◌, List, map, IfOk, IfErr, IsTrue, ◌↔◌, string_bytes};
+ghost use Rattle.netmesh_cli.specs.Commands.{IsCommand};
+ghost use Rattle.netmesh_cli.specs.Words.{task_asked, no_options, WordsRefused};
+
+use super::Refusal;
+use super::command::{Command, MeshFiles, MeshOptions, read_words};
+
+/// The part that words are that are not built yet.
+const WORDS_PART: u32 = 1;
+
+/// What is asked for.
+#[derive(Clone, Copy)]
+pub enum Asked<'a> {
+    /// A mesh of a geometry, without options.
+    Mesh(MeshFiles<'a>),
+    /// A geometry, printed.
+    Geom(&'a str),
+}
+
+/// Whether no option is given.
+fn has_none(options: &MeshOptions) -> bool
+    ensures { IsTrue result ↔ (options.now ≡ no_options) }
+{
+    options.maxh.is_none()
+        && options.grading.is_none()
+        && options.class.is_none()
+        && options.steps.is_none()
+}
+
+/// What the words of a call ask for, or why they are refused.
+pub fn read_asked<'a>(words: &'a [String]) -> Result<Asked<'a>, Refusal>
+    ensures asked { IfOk result (λ asked. IsCommand (map string_bytes words.entry.now) (task_asked asked)) }
+    ensures refused { IfErr result (WordsRefused (map string_bytes words.entry.now)) }
+{
+    match read_words(words) {
+        Ok(Command::Mesh(files)) => {
+            if has_none(&files.options) {
+                Ok(Asked::Mesh(files))
+            } else {
+                Err(Refusal::NotYet { part: WORDS_PART })
+            }
+        }
+        Ok(Command::Geom { geometry }) => Ok(Asked::Geom(geometry)),
+        Ok(_) => Err(Refusal::NotYet { part: WORDS_PART }),
+        Err(fault) => Err(Refusal::Words(fault)),
+    }
+}

@@ -1,0 +1,17 @@
+//! Laws of the geometry of a file, each as the contract of a function that does nothing.
+
+ghost use Rattle.std.specs.Prelude.{◌≡◌, ℕ, List};
+ghost use Rattle.in2d_reader.specs.declared.geometry.RawGeometry.{RawGeometry};
+ghost use Rattle.geom_check.specs.Geometry.{PlanarMap, IsGeometryOf};
+ghost use Rattle.mesh_run.specs.declared.End.TheVariants.{Stuck};
+ghost use Rattle.netmesh_cli.specs.Accepted.{IsMapText, run_of};
+
+/// A text writes one geometry, which lies on the grid in one way: what is put and written of it follows from its bytes.
+pub fn one_map()
+    ensures { (bytes : List ℕ) (raw other : RawGeometry) (g h : PlanarMap) → IsMapText bytes raw g → IsMapText bytes other h → (raw ≡ other) × (g ≡ h) }
+{}
+
+/// The run of an accepted geometry by no rule is stuck: some segment names a domain, whose front stays its boundary.
+pub fn accepted_is_stuck()
+    ensures { (raw : RawGeometry) (g : PlanarMap) → IsGeometryOf raw g → (run_of g).end ≡ Stuck }
+{}
