@@ -23,7 +23,7 @@ both_true true b e = (refl, e)
 both_true false b e = absurd cc
 
 -- digits before something else are read as they stand
-run_of : (digits rest : List ℕ) → all_ascii_digits digits ≡ true → EndsDigits rest → prefix_len is_ascii_digit (digits ++ rest) ≡ length digits
+pub run_of : (digits rest : List ℕ) → all_ascii_digits digits ≡ true → EndsDigits rest → prefix_len is_ascii_digit (digits ++ rest) ≡ length digits
 run_of [] [] all ends = refl
 run_of [] (b ∷ rest) all ends = rw ends refl
 run_of (b ∷ digits) rest all ends =
@@ -31,7 +31,7 @@ run_of (b ∷ digits) rest all ends =
     let others = run_of digits rest parts.1 ends in
     rw (parts.0, others) (omega arith)
 
-digits_read : (digits rest : List ℕ) → all_ascii_digits digits ≡ true → EndsDigits rest → digits_at (digits ++ rest) ≡ (digits, rest)
+pub digits_read : (digits rest : List ℕ) → all_ascii_digits digits ≡ true → EndsDigits rest → digits_at (digits ++ rest) ≡ (digits, rest)
 digits_read digits rest all ends = rw (run_of digits rest all ends, take_at digits rest (length digits) refl, drop_at digits rest (length digits) refl) refl
 
 -- the power's text begins with no digit, and so does the fraction's
@@ -47,17 +47,17 @@ fraction_ends (Some digits) power is = refl
 digit_is_no_sign : (b : ℕ) (bytes : List ℕ) → (b ≡ 45 → ⊥) → (b ≡ 43 → ⊥) → sign_at (b ∷ bytes) ≡ (false, b ∷ bytes)
 digit_is_no_sign b bytes minus plus = rw (ne_eqb b 45 minus, ne_eqb b 43 plus) refl
 
-abbrev NoSignFirst : List ℕ → Type 0
+abbrev pub NoSignFirst : List ℕ → Type 0
 NoSignFirst [] = Unit {0}
 NoSignFirst (b ∷ bytes) = (b ≡ 45 → ⊥) × (b ≡ 43 → ⊥)
 
-sign_read : (sign : Sign) (rest : List ℕ) → NoSignFirst rest → sign_at (sign_text sign ++ rest) ≡ (is_minus sign, rest)
+pub sign_read : (sign : Sign) (rest : List ℕ) → NoSignFirst rest → sign_at (sign_text sign ++ rest) ≡ (is_minus sign, rest)
 sign_read NoSign [] none = refl
 sign_read NoSign (b ∷ rest) none = digit_is_no_sign b rest none.0 none.1
 sign_read Plus rest none = refl
 sign_read Minus rest none = refl
 
-digits_no_sign : (digits rest : List ℕ) → all_ascii_digits digits ≡ true → NoSignFirst rest → NoSignFirst (digits ++ rest)
+pub digits_no_sign : (digits rest : List ℕ) → all_ascii_digits digits ≡ true → NoSignFirst rest → NoSignFirst (digits ++ rest)
 digits_no_sign [] rest all none = none
 digits_no_sign (b ∷ digits) rest all none =
     let parts = tells_all_ascii_digits.parts b digits all in
@@ -118,18 +118,18 @@ sign_by true plus b bytes m p = let e : b ≡ 45 = eqb-true b 45 m in rw e (Minu
 sign_by false true b bytes m p = let e : b ≡ 43 = eqb-true b 43 p in rw e (Plus, refl, refl)
 sign_by false false b bytes m p = rw (m, p) (NoSign, refl, refl)
 
-sign_found : (bytes : List ℕ) → (sign : Sign) × (bytes ≡ sign_text sign ++ (sign_at bytes).1) × (is_minus sign ≡ (sign_at bytes).0)
+pub sign_found : (bytes : List ℕ) → (sign : Sign) × (bytes ≡ sign_text sign ++ (sign_at bytes).1) × (is_minus sign ≡ (sign_at bytes).0)
 sign_found [] = (NoSign, refl, refl)
 sign_found (b ∷ bytes) = sign_by (eqb b 45) (eqb b 43) b bytes refl refl
 
-digits_found : (bytes : List ℕ) → (bytes ≡ (digits_at bytes).0 ++ (digits_at bytes).1) × (all_ascii_digits (digits_at bytes).0 ≡ true)
+pub digits_found : (bytes : List ℕ) → (bytes ≡ (digits_at bytes).0 ++ (digits_at bytes).1) × (all_ascii_digits (digits_at bytes).0 ≡ true)
 digits_found bytes = (sym (take-append-drop (prefix_len is_ascii_digit bytes) bytes), run_is_digits bytes)
 
-record IsFraction (bytes : List ℕ) (read : List ℕ × List ℕ) : Type 0 where
-  fraction : Option (List ℕ)
-  text : bytes ≡ fraction_text fraction ++ read.1
-  digits : fraction_digits fraction ≡ read.0
-  all : all_ascii_digits read.0 ≡ true
+pub record IsFraction (bytes : List ℕ) (read : List ℕ × List ℕ) : Type 0 where
+  pub fraction : Option (List ℕ)
+  pub text : bytes ≡ fraction_text fraction ++ read.1
+  pub digits : fraction_digits fraction ≡ read.0
+  pub all : all_ascii_digits read.0 ≡ true
 
 fraction_by : (point : Bool) (b : ℕ) (bytes : List ℕ) → eqb b 46 ≡ point → IsFraction (b ∷ bytes) (cond point (digits_at bytes) ([], b ∷ bytes))
 fraction_by true b bytes e =
@@ -138,7 +138,7 @@ fraction_by true b bytes e =
     record { fraction = Some (digits_at bytes).0; text = rw point (ap (λ (t : List ℕ). 46 ∷ t) found.0); digits = refl; all = found.1 }
 fraction_by false b bytes e = record { fraction = None; text = refl; digits = refl; all = refl }
 
-fraction_found : (bytes : List ℕ) → IsFraction bytes (fraction_at bytes)
+pub fraction_found : (bytes : List ℕ) → IsFraction bytes (fraction_at bytes)
 fraction_found [] = record { fraction = None; text = refl; digits = refl; all = refl }
 fraction_found (b ∷ bytes) = fraction_by (eqb b 46) b bytes refl
 

@@ -4,3 +4,6 @@ pub mod Laws
 pub mod DecimalLaws
 pub mod Prefixes
 pub mod TokenWalk
+pub mod TokenLaws
+pub mod LongestToken
+pub mod TokenReading

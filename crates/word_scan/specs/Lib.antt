@@ -4,3 +4,4 @@ pub mod Scan
 pub mod Numerals
 pub mod Decimals
 pub mod Tokens
+pub mod TokenParts

@@ -9,6 +9,7 @@ mod decimals;
 mod name;
 mod scanner;
 mod spaced;
+pub mod token_laws;
 mod tokens;
 mod wholes;
 
