@@ -18,15 +18,15 @@ use Rattle.rule_reader.specs.declared.reader.Use.{Use}
 use Rattle.rule_reader.specs.Grammar.{Said, plain, naming, words, ◌▹◌, done, either, mark, name, text, number, quality, index, coordinates, triple, ends, three, pair, element, variable, letter, joined_variable, parted_variable, term}
 use Rattle.rule_reader.proofs.Good.{Good, Always, IsWord, good_word, ◌▸◌, pure, seq, ended, after, bind_ok, ok_is, okay, judged_ok}
 
-abbrev fitting : {A : Type 0} → A → Fit A
+abbrev pub fitting : {A : Type 0} → A → Fit A
 fitting x = Fits x
 
-fits_is : {A : Type 0} (x y : A) → fitting x ≡ fitting y → x ≡ y
+pub fits_is : {A : Type 0} (x y : A) → fitting x ≡ fitting y → x ≡ y
 fits_is x y e = cc
 
 -- ---- words
 
-if_fits : (b : Bool) (u : Unit {0}) → fit_if b ≡ Fits u → b ≡ true
+pub if_fits : (b : Bool) (u : Unit {0}) → fit_if b ≡ Fits u → b ≡ true
 if_fits true u e = refl
 if_fits false u e = absurd cc
 
@@ -132,7 +132,7 @@ good_triple = twin_triple
 
 -- ---- indices
 
-abbrev st_of : List Tok → List Use → ℕ → State
+abbrev pub st_of : List Tok → List Use → ℕ → State
 st_of left uses rule = record { left = left; uses = uses; rule = rule }
 
 -- what an index that was read says
@@ -209,7 +209,7 @@ good_element before = twin_element before
 abbrev TakesVariable : Tok → List Tok → List Use → ℕ → (Bool × ℕ) × State → Type 0
 TakesVariable t left uses rule p = (said : List Said) × variable said p.0 × (t ∷ left ≡ words said ++ p.1.left) × (p.1 ≡ after (st_of (t ∷ left) uses rule) said p.1.left)
 
-letter_is : (x y : Bool) (b : ℕ) (digits : List ℕ) (v : Bool × Option ℕ) → eqb b 88 ≡ x → eqb b 89 ≡ y → cond x (variable_rest false digits) (cond y (variable_rest true digits) Unfit) ≡ Fits v
+pub letter_is : (x y : Bool) (b : ℕ) (digits : List ℕ) (v : Bool × Option ℕ) → eqb b 88 ≡ x → eqb b 89 ≡ y → cond x (variable_rest false digits) (cond y (variable_rest true digits) Unfit) ≡ Fits v
     → (of_y : Bool) × (b ≡ letter of_y) × (variable_rest of_y digits ≡ Fits v)
 letter_is true y b digits v ex ey e = (false, eqb-true b 88 ex, e)
 letter_is false true b digits v ex ey e = (true, eqb-true b 89 ey, e)
@@ -299,7 +299,7 @@ joined_again said v st more l e =
     = ap (λ (f : Fit (Bool × Option ℕ)). judged f (st_of (here ∷ more) st.uses st.rule) >>= variable_behind (suc (length more))) fits in
     ap (λ (ts : List Tok). variable_at (st_of ts st.uses st.rule)) left ∙ read ∙ ap (λ (s : List Said). Ok (v, after st s more)) (sym l.2)
 
-parted_fits : (of_y : Bool) → variable_of (letter of_y ∷ []) ≡ Fits (of_y, None)
+pub parted_fits : (of_y : Bool) → variable_of (letter of_y ∷ []) ≡ Fits (of_y, None)
 parted_fits false = refl
 parted_fits true = refl
 

@@ -14,44 +14,49 @@ use Rattle.rule_reader.specs.Words.{Tok, NameTok, State, head, begun, at_start}
 use Rattle.rule_reader.specs.Reading.{Read, ◌>>=◌, is_fit, name_fit, is_at, name_at, number_at, text_at}
 use Rattle.rule_reader.specs.Verdict.{misses, is_bad, loose_starts, verdict, index_verdict, lines_verdict, graph_verdict}
 use Rattle.rule_reader.specs.Sections.{rule_of, empty_parts, endrule_word, rule_word, tolfak_word, sections_at, name_of_rule_at, judged_rule, rule_at, rules_at, tolfak_at, file_at, reading}
-use Rattle.rule_reader.specs.Grammar.{Said, Index, words, ◌▹◌, done, many, at_most, name, number, text, rule_name, rule_said, Hits, Fitting, whole_rule, tolfak, Admits}
+use Rattle.rule_reader.specs.Grammar.{Limits, standard, Said, Index, words, ◌▹◌, done, many, at_most, name, number, text, rule_name, rule_said, Hits, Fitting, whole_rule, tolfak, Admits}
 use Rattle.rule_reader.proofs.Good.{Good, Always, good_if, good_done, good_before, ◌▸◌, pure, seq, seq_before, ended, use_at, uses_of, after, bind_ok, ok_is, words_append}
 use Rattle.rule_reader.proofs.GoodEntries.{good_name, good_number, good_text}
 use Rattle.rule_reader.proofs.GoodLists.{name_head}
 use Rattle.rule_reader.proofs.GoodMany.{done_words}
-use Rattle.rule_reader.proofs.GoodSections.{good_sections}
+use Rattle.rule_reader.proofs.GoodSections.{good_sections, same_sections}
+use Rattle.rule_reader.proofs.Within.{sections_in, name_in, body_in}
 
 -- ---- the name of a rule
 
-abbrev short_name : Bool → List ℕ × State → Read (List ℕ)
+abbrev pub short_name : Bool → List ℕ × State → Read (List ℕ)
 short_name long p = cond long (Err (TooMany p.1.rule 11)) (Ok p)
 
-named_takes : (b : Bool) (p q : List ℕ × State) → ltb 200 (length p.0) ≡ b → short_name b p ≡ Ok q → (p ≡ q) × (length p.0 ≤ 200)
-named_takes true p q t e = absurd cc
-named_takes false p q t e = (ok_is p q e, ltb-false 200 (length p.0) t)
+pub named_takes : (most : ℕ) (b : Bool) (p q : List ℕ × State) → ltb most (length p.0) ≡ b → short_name b p ≡ Ok q → (p ≡ q) × (length p.0 ≤ most)
+named_takes most true p q t e = absurd cc
+named_takes most false p q t e = (ok_is p q e, ltb-false most (length p.0) t)
 
-good_rule_name : Good (List ℕ) Always rule_name name_of_rule_at
-unfolding rule_name name_of_rule_at
-good_rule_name =
+good_rule_name : (most : Limits) → Good (List ℕ) Always (rule_name most) (name_in most)
+unfolding rule_name name_in
+good_rule_name most =
     record {
       takes = λ st v st2 e.
-          let b = bind_ok (text_at st) (λ n. short_name (ltb 200 (length n.0)) n) (v, st2) e in
-          let k = named_takes (ltb 200 (length b.0.0)) b.0 (v, st2) refl b.2 in
+          let b = bind_ok (text_at st) (λ n. short_name (ltb (most 11) (length n.0)) n) (v, st2) e in
+          let k = named_takes (most 11) (ltb (most 11) (length b.0.0)) b.0 (v, st2) refl b.2 in
           let t = good_text.takes st b.0.0 b.0.1 b.1 in
-          subst (λ (p : List ℕ × State). (said : List Said) × (text said p.0 × (length p.0 ≤ 200)) × (st.left ≡ words said ++ p.1.left) × (p.1 ≡ after st said p.1.left)) k.0 (t.0, (t.1, k.1), t.2, t.3);
+          subst (λ (p : List ℕ × State). (said : List Said) × (text said p.0 × (length p.0 ≤ most 11)) × (st.left ≡ words said ++ p.1.left) × (p.1 ≡ after st said p.1.left)) k.0 (t.0, (t.1, k.1), t.2, t.3);
       again = λ said v st more l f e.
-          let short : ltb 200 (length v) ≡ false = le-ltb 200 (length v) l.1 in
+          let short : ltb (most 11) (length v) ≡ false = le-ltb (most 11) (length v) l.1 in
           rw (good_text.again said v st more l.0 f e, short) refl;
     }
 
 -- ---- a rule, whatever its indices
 
-unfoldable body : State → Read Rule
-body = name_at rule_word ▸ λ a. name_of_rule_at ▸ λ bytes. sections_at 9 empty_parts ▸ λ parts. name_at endrule_word ▸ λ b. pure (rule_of bytes parts)
+pub good_body : (most : Limits) → Good Rule Always (rule_said most) (body_in most)
+unfolding body_in
+good_body most = seq (good_name rule_word) (λ a. seq (good_rule_name most) (λ bytes. seq_before (good_sections most) (λ parts. seq (good_name endrule_word) (λ b. ended (rule_of bytes parts))) (λ parts said y more m f. name_head _ endrule_word said y more m)))
 
-good_body : Good Rule Always rule_said body
-unfolding body
-good_body = seq (good_name rule_word) (λ a. seq good_rule_name (λ bytes. seq_before good_sections (λ parts. seq (good_name endrule_word) (λ b. ended (rule_of bytes parts))) (λ parts said y more m f. name_head _ endrule_word said y more m)))
+abbrev pub body : State → Read Rule
+body = body_in standard
+
+pub same_name : (st : State) → name_of_rule_at st ≡ name_in standard st
+unfolding name_of_rule_at name_in
+same_name st = refl
 
 -- ---- indices that hit
 
@@ -65,7 +70,7 @@ find_first p x xs false t e = let later : find p (x ∷ xs) ≡ find p xs = rw t
 find_later : (p : Use → Bool) (x : Use) (xs : List Use) → p x ≡ false → find p xs ≡ None → find p (x ∷ xs) ≡ None
 find_later p x xs t e = rw t e
 
-abbrev FindsNone : ℕ → ℕ → List Use → Type 0
+abbrev pub FindsNone : ℕ → ℕ → List Use → Type 0
 FindsNone points new_points uses = find (is_bad points new_points) uses ≡ None
 
 hit_first : (points new_points left : ℕ) (o : Option Index) (uses : List Use) → FindsNone points new_points (use_at left o ++ uses) → Hits points new_points o × FindsNone points new_points uses
@@ -76,7 +81,7 @@ hit_later : (points new_points left : ℕ) (o : Option Index) (uses : List Use) 
 hit_later points new_points left None uses h e = e
 hit_later points new_points left (Some i) uses h e = find_later (is_bad points new_points) (record { left = left; index = i.value; bound = i.bound }) uses h e
 
-hits_of : (points new_points : ℕ) (more : List Tok) (said : List Said) → FindsNone points new_points (uses_of more said) → AllByRecursion (λ s. Hits points new_points s.index) said
+pub hits_of : (points new_points : ℕ) (more : List Tok) (said : List Said) → FindsNone points new_points (uses_of more said) → AllByRecursion (λ s. Hits points new_points s.index) said
 hits_of points new_points more [] e = tt
 hits_of points new_points more (s ∷ said) e =
     let h = hit_first points new_points (suc (length (words said ++ more))) s.index (uses_of more said) e in
@@ -130,22 +135,22 @@ judged_none None rule st p e = (refl, ok_is (rule, st) p e)
 judged_none (Some f) rule st p e = absurd cc
 
 -- what reading a rule goes through
-record RuleSteps (st : State) (p : Rule × State) : Type 0 where
+pub record RuleSteps (st : State) (p : Rule × State) : Type 0 where
   pub whole : body st ≡ Ok p
   pub left : ℕ
   pub none : verdict p.1.rule p.1.uses p.0 left ≡ None
 
-body_is : (st st1 st2 st3 st4 : State) (u w : Unit {0}) (n : List ℕ) (parts : Parts) → name_at rule_word st ≡ Ok (u, st1) → name_of_rule_at st1 ≡ Ok (n, st2) → sections_at 9 empty_parts st2 ≡ Ok (parts, st3) → name_at endrule_word st3 ≡ Ok (w, st4) → body st ≡ Ok (rule_of n parts, st4)
-unfolding body ◌▸◌ pure
-body_is st st1 st2 st3 st4 u w n parts a b c d = rw (a, b, c, d) refl
+pub body_is : (st st1 st2 st3 st4 : State) (u w : Unit {0}) (n : List ℕ) (parts : Parts) → name_at rule_word st ≡ Ok (u, st1) → name_of_rule_at st1 ≡ Ok (n, st2) → sections_at 9 empty_parts st2 ≡ Ok (parts, st3) → name_at endrule_word st3 ≡ Ok (w, st4) → body st ≡ Ok (rule_of n parts, st4)
+unfolding body_in ◌▸◌ pure
+body_is st st1 st2 st3 st4 u w n parts a b c d = rw (a, sym (same_name st1) ∙ b, sym (same_sections 9 empty_parts st2) ∙ c, d) refl
 
 rule_is : (st st1 st2 st3 st4 : State) (u w : Unit {0}) (n : List ℕ) (parts : Parts) → name_at rule_word st ≡ Ok (u, st1) → name_of_rule_at st1 ≡ Ok (n, st2) → sections_at 9 empty_parts st2 ≡ Ok (parts, st3) → name_at endrule_word st3 ≡ Ok (w, st4)
     → verdict st4.rule st4.uses (rule_of n parts) (length st3.left) ≡ None → rule_at st ≡ Ok (rule_of n parts, st4)
 unfolding rule_at
 rule_is st st1 st2 st3 st4 u w n parts a b c d none = rw (a, b, c, d) (ap (λ (o : Option Fault). judged_rule o (rule_of n parts) st4) none)
 
-rule_steps : (st : State) (p : Rule × State) → rule_at st ≡ Ok p → RuleSteps st p
-unfolding rule_at body ◌▸◌ pure
+pub rule_steps : (st : State) (p : Rule × State) → rule_at st ≡ Ok p → RuleSteps st p
+unfolding rule_at
 rule_steps st p e =
     let a = bind_ok (name_at rule_word st) (λ a. name_of_rule_at a.1 >>= λ n. sections_at 9 empty_parts n.1 >>= λ s. name_at endrule_word s.1 >>= λ b. judged_rule (verdict b.1.rule b.1.uses (rule_of n.0 s.0) (length s.1.left)) (rule_of n.0 s.0) b.1) p e in
     let n = bind_ok (name_of_rule_at a.0.1) (λ n. sections_at 9 empty_parts n.1 >>= λ s. name_at endrule_word s.1 >>= λ b. judged_rule (verdict b.1.rule b.1.uses (rule_of n.0 s.0) (length s.1.left)) (rule_of n.0 s.0) b.1) p a.2 in
@@ -157,23 +162,23 @@ rule_steps st p e =
     subst (RuleSteps st) j.1 (record { whole = one; left = length s.0.1.left; none = j.0 })
 
 rule_back : (st : State) (p : Rule × State) → body st ≡ Ok p → ((left : ℕ) → verdict p.1.rule p.1.uses p.0 left ≡ None) → rule_at st ≡ Ok p
-unfolding rule_at body ◌▸◌ pure
+unfolding body_in ◌▸◌ pure
 rule_back st p e none =
-    let a = bind_ok (name_at rule_word st) (λ a. name_of_rule_at a.1 >>= λ n. sections_at 9 empty_parts n.1 >>= λ s. name_at endrule_word s.1 >>= λ b. Ok (rule_of n.0 s.0, b.1)) p e in
-    let n = bind_ok (name_of_rule_at a.0.1) (λ n. sections_at 9 empty_parts n.1 >>= λ s. name_at endrule_word s.1 >>= λ b. Ok (rule_of n.0 s.0, b.1)) p a.2 in
-    let s = bind_ok (sections_at 9 empty_parts n.0.1) (λ s. name_at endrule_word s.1 >>= λ b. Ok (rule_of n.0.0 s.0, b.1)) p n.2 in
+    let a = bind_ok (name_at rule_word st) (λ a. name_in standard a.1 >>= λ n. sections_in standard 9 empty_parts n.1 >>= λ s. name_at endrule_word s.1 >>= λ b. Ok (rule_of n.0 s.0, b.1)) p e in
+    let n = bind_ok (name_in standard a.0.1) (λ n. sections_in standard 9 empty_parts n.1 >>= λ s. name_at endrule_word s.1 >>= λ b. Ok (rule_of n.0 s.0, b.1)) p a.2 in
+    let s = bind_ok (sections_in standard 9 empty_parts n.0.1) (λ s. name_at endrule_word s.1 >>= λ b. Ok (rule_of n.0.0 s.0, b.1)) p n.2 in
     let b = bind_ok (name_at endrule_word s.0.1) (λ b. Ok (rule_of n.0.0 s.0.0, b.1)) p s.2 in
     let rule : Rule = rule_of n.0.0 s.0.0 in
     let is : (rule, b.0.1) ≡ p = ok_is (rule, b.0.1) p b.2 in
     let fine : verdict b.0.1.rule b.0.1.uses rule (length s.0.1.left) ≡ None = subst (λ (q : Rule × State). verdict q.1.rule q.1.uses q.0 (length s.0.1.left) ≡ None) (sym is) (none (length s.0.1.left)) in
-    rule_is st a.0.1 n.0.1 s.0.1 b.0.1 a.0.0 b.0.0 n.0.0 s.0.0 a.1 n.1 s.1 b.1 fine ∙ ap (λ (q : Rule × State). Ok q) is
+    rule_is st a.0.1 n.0.1 s.0.1 b.0.1 a.0.0 b.0.0 n.0.0 s.0.0 a.1 (same_name a.0.1 ∙ n.1) (same_sections 9 empty_parts n.0.1 ∙ s.1) b.1 fine ∙ ap (λ (q : Rule × State). Ok q) is
 
 -- from the beginning of a rule on, where no index was used yet
-rule_takes : (before number : ℕ) (st : State) (v : Rule) (st2 : State) → rule_at (begun number st) ≡ Ok (v, st2) → (said : List Said) × whole_rule before said v × (st.left ≡ words said ++ st2.left)
+pub rule_takes : (before number : ℕ) (st : State) (v : Rule) (st2 : State) → rule_at (begun number st) ≡ Ok (v, st2) → (said : List Said) × whole_rule before said v × (st.left ≡ words said ++ st2.left)
 unfolding whole_rule
 rule_takes before number st v st2 e =
     let r = rule_steps (begun number st) (v, st2) e in
-    let t = good_body.takes (begun number st) v st2 r.whole in
+    let t = (good_body standard).takes (begun number st) v st2 r.whole in
     let uses : st2.uses ≡ uses_of st2.left t.0 = ap (λ (s : State). s.uses) t.3 in
     let none : verdict st2.rule (uses_of st2.left t.0) v r.left ≡ None = subst (λ (us : List Use). verdict st2.rule us v r.left ≡ None) uses r.none in
     (t.0, (t.1, fits_by st2.rule r.left st2.left t.0 v none), t.2)
@@ -181,18 +186,18 @@ rule_takes before number st v st2 e =
 rule_again : (before number : ℕ) (said : List Said) (v : Rule) (st : State) (more : List Tok) → whole_rule before said v → st.left ≡ words said ++ more → rule_at (begun number st) ≡ Ok (v, after (begun number st) said more)
 unfolding whole_rule
 rule_again before number said v st more l left =
-    let one = good_body.again said v (begun number st) more l.0 tt left in
+    let one = (good_body standard).again said v (begun number st) more l.0 tt left in
     rule_back (begun number st) (v, after (begun number st) said more) one (λ n. verdict_is number n more said v l.1)
 
 -- ---- rules
 
-abbrev is_rule : Option Tok → Bool
+abbrev pub is_rule : Option Tok → Bool
 is_rule o = is_fit (name_fit rule_word o)
 
-name_is : (n : List ℕ) → is_fit (name_fit n (Some (NameTok n))) ≡ true
+pub name_is : (n : List ℕ) → is_fit (name_fit n (Some (NameTok n))) ≡ true
 name_is n = rw ((bytes_eq-Decides n n).1 refl) refl
 
-rule_begins : (before : ℕ) (said : List Said) (v : Rule) (more : List Tok) → whole_rule before said v → is_rule (head (words said ++ more)) ≡ true
+pub rule_begins : (before : ℕ) (said : List Said) (v : Rule) (more : List Tok) → whole_rule before said v → is_rule (head (words said ++ more)) ≡ true
 unfolding whole_rule
 rule_begins before said v more l = ap is_rule (name_head _ rule_word said v more l.0) ∙ name_is rule_word
 
@@ -253,23 +258,23 @@ rules_again (suc room) before said (r ∷ rs) st more l few f left =
 
 -- ---- a file
 
-abbrev is_tolfak : Option Tok → Bool
+abbrev pub is_tolfak : Option Tok → Bool
 is_tolfak o = is_fit (name_fit tolfak_word o)
 
-abbrev NoTolfak : List Tok → Type 0
+abbrev pub NoTolfak : List Tok → Type 0
 NoTolfak more = is_tolfak (head more) ≡ false
 
 twin_tolfak : Good (Unit {0}) NoTolfak (name tolfak_word ▹ λ a. number 160000 ▹ λ n. done tt) (name_at tolfak_word ▸ λ a. number_at 160000 ▸ λ n. pure tt)
 twin_tolfak = seq (good_name tolfak_word) (λ a. seq (good_number 160000) (λ n. good_before (Unit {0}) Always NoTolfak (done tt) (pure tt) (ended tt) (λ more f. tt)))
 
-good_tolfak : Good (Unit {0}) NoTolfak tolfak tolfak_at
+pub good_tolfak : Good (Unit {0}) NoTolfak tolfak tolfak_at
 unfolding tolfak_at ◌▸◌ pure
 good_tolfak = good_if (Unit {0}) NoTolfak (name tolfak_word ▹ λ a. number 160000 ▹ λ n. done tt) (done tt) is_tolfak (name_at tolfak_word ▸ λ a. number_at 160000 ▸ λ n. pure tt) (λ st. Ok (tt, st))
     twin_tolfak (good_before (Unit {0}) Always NoTolfak (done tt) (λ st. Ok (tt, st)) (good_done (Unit {0}) tt) (λ more f. tt))
     (λ said v more l f. ap is_tolfak (name_head _ tolfak_word said v more l) ∙ name_is tolfak_word)
     (λ said v more l f. ap (λ ts. is_tolfak (head ts)) (done_words tt said v more l) ∙ f)
 
-ends_there : (b : Bool) (rules : List Rule) (st : State) (p : List Rule × State) → ltb 0 (length st.left) ≡ b → cond b (Err (Syntax (length st.left))) (Ok (rules, st)) ≡ Ok p → ((rules, st) ≡ p) × (st.left ≡ [])
+pub ends_there : (b : Bool) (rules : List Rule) (st : State) (p : List Rule × State) → ltb 0 (length st.left) ≡ b → cond b (Err (Syntax (length st.left))) (Ok (rules, st)) ≡ Ok p → ((rules, st) ≡ p) × (st.left ≡ [])
 ends_there true rules st p t e = absurd cc
 ends_there false rules st p t e = (ok_is (rules, st) p e, nil_from_length st.left (omega (arith, ltb-false 0 (length st.left) t)))
 

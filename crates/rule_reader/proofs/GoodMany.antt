@@ -6,9 +6,10 @@ use Rattle.rule_reader.specs.declared.fault.Fault.TheVariants.{TooMany}
 use Rattle.rule_reader.specs.declared.rule.Term.{Term}
 use Rattle.rule_reader.specs.declared.rule.Place.{Place}
 use Rattle.rule_reader.specs.Words.{Tok, MarkTok, State, head}
-use Rattle.rule_reader.specs.Reading.{Read, ◌>>=◌, is_fit, mark_fit, opens, mark_at, coordinates_at, term_at, past_terms, terms_at, inner_terms_at, row_at, any_row_at, rows_at, place_at, entries_at}
-use Rattle.rule_reader.specs.Grammar.{Said, words, ◌▹◌, done, either, many, at_most, mark, term, terms, row, rows, place}
+use Rattle.rule_reader.specs.Reading.{Read, ◌>>=◌, is_fit, mark_fit, opens, mark_at, term_at, past_terms, terms_at, entries_at}
+use Rattle.rule_reader.specs.Grammar.{Limits, Said, words, ◌▹◌, done, either, many, at_most, mark, term, terms, row, rows, place}
 use Rattle.rule_reader.proofs.Good.{Good, Always, good_if, good_done, good_before, good_same, ◌▸◌, pure, seq, seq_before, ended, after, bind_ok}
+use Rattle.rule_reader.proofs.Within.{inner_terms_in, row_in, any_row_in, rows_in, place_in}
 use Rattle.rule_reader.proofs.GoodEntries.{good_mark, good_coordinates, good_term}
 use Rattle.rule_reader.proofs.GoodLists.{mark_head, number_head, then_head, AtMark, NoMark}
 
@@ -28,10 +29,10 @@ abbrev pub upto : {A : Type 0} → (ℕ → List Said → A → Type 0) → ℕ 
 upto entry k room said xs = many entry k said xs × (length xs ≤ room)
 
 -- one, and then others
-abbrev more_of : {A : Type 0} → (ℕ → List Said → A → Type 0) → ℕ → ℕ → List Said → List A → Type 0
+abbrev pub more_of : {A : Type 0} → (ℕ → List Said → A → Type 0) → ℕ → ℕ → List Said → List A → Type 0
 more_of entry k room = entry k ▹ λ x. upto entry (k + 1) room ▹ λ xs. done (x ∷ xs)
 
-more_is : {A : Type 0} (entry : ℕ → List Said → A → Type 0) (k room : ℕ) (said : List Said) (v : List A) → more_of entry k room said v → upto entry k (suc room) said v
+pub more_is : {A : Type 0} (entry : ℕ → List Said → A → Type 0) (k room : ℕ) (said : List Said) (v : List A) → more_of entry k room said v → upto entry k (suc room) said v
 unfolding ◌▹◌ done many
 more_is {A} entry k room said v l =
     let x = l.0 in
@@ -100,15 +101,15 @@ good_many A entry e test R is k (suc room) =
 
 -- ---- entries
 
-abbrev is_open : Option Tok → Bool
+abbrev pub is_open : Option Tok → Bool
 is_open o = is_fit (mark_fit 40 o)
 
-entries_stop : {A : Type 0} (e : ℕ → State → Read A) (what k room : ℕ) (st : State) → opens 40 st ≡ false → entries_at e what k room st ≡ Ok ([], st)
+pub entries_stop : {A : Type 0} (e : ℕ → State → Read A) (what k room : ℕ) (st : State) → opens 40 st ≡ false → entries_at e what k room st ≡ Ok ([], st)
 unfolding entries_at
 entries_stop e what k zero st t = rw t refl
 entries_stop e what k (suc room) st t = rw t refl
 
-entries_full : {A : Type 0} (e : ℕ → State → Read A) (what k : ℕ) (st : State) (x : List A × State) → opens 40 st ≡ true → entries_at e what k zero st ≡ Ok x → ⊥
+pub entries_full : {A : Type 0} (e : ℕ → State → Read A) (what k : ℕ) (st : State) (x : List A × State) → opens 40 st ≡ true → entries_at e what k zero st ≡ Ok x → ⊥
 unfolding entries_at
 entries_full e what k st x t read = let none : Err (TooMany st.rule what) ≡ Ok x = rw t at read in absurd cc
 
@@ -131,21 +132,21 @@ good_entries A entry e what most good begins = good_many A entry e is_open (λ k
 
 -- ---- rows
 
-abbrev is_comma : Option Tok → Bool
+abbrev pub is_comma : Option Tok → Bool
 is_comma o = is_fit (mark_fit 44 o)
 
 -- terms that each have a comma before them
-abbrev comma_term : ℕ → List Said → Term → Type 0
+abbrev pub comma_term : ℕ → List Said → Term → Type 0
 comma_term k = mark 44 ▹ λ c. term
 
-abbrev rest_terms : ℕ → State → Read (List Term)
+abbrev pub rest_terms : ℕ → State → Read (List Term)
 rest_terms room st = cond (opens 44 st) (mark_at 44 st >>= λ c. terms_at room c.1) (Ok ([], st))
 
 bind_assoc : {A B C : Type 0} (r : Result A Fault) (f : A → Result B Fault) (g : B → Result C Fault) → (r >>= f) >>= g ≡ r >>= (λ x. f x >>= g)
 bind_assoc (Ok x) f g = refl
 bind_assoc (Err e) f g = refl
 
-bind_same : {A B : Type 0} (r : Result A Fault) (f g : A → Result B Fault) → ((x : A) → f x ≡ g x) → r >>= f ≡ r >>= g
+pub bind_same : {A B : Type 0} (r : Result A Fault) (f g : A → Result B Fault) → ((x : A) → f x ≡ g x) → r >>= f ≡ r >>= g
 bind_same (Ok x) f g same = same x
 bind_same (Err e) f g same = refl
 
@@ -156,7 +157,7 @@ after_term : (b : Bool) (t : Term × State) (room : ℕ) → cond b (mark_at 44 
 after_term true t room = sym (bind_assoc (mark_at 44 t.1) (λ c. terms_at room c.1) (put_term t))
 after_term false t room = refl
 
-terms_more : (room : ℕ) (st : State) → terms_at (suc room) st ≡ (term_at st >>= λ t. rest_terms room t.1 >>= put_term t)
+pub terms_more : (room : ℕ) (st : State) → terms_at (suc room) st ≡ (term_at st >>= λ t. rest_terms room t.1 >>= put_term t)
 unfolding terms_at
 terms_more room st = bind_same (term_at st) (λ t. cond (opens 44 t.1) (mark_at 44 t.1 >>= λ c. terms_at room c.1 >>= put_term t) (Ok (t.0 ∷ [], t.1))) (λ t. rest_terms room t.1 >>= put_term t) (λ t. after_term (opens 44 t.1) t room)
 
@@ -164,14 +165,14 @@ absurd_full : (st : State) (x : List Term × State) → terms_at zero st ≡ Ok 
 unfolding terms_at
 absurd_full st x read = let none : Err (past_terms st) ≡ Ok x = read in absurd cc
 
-rest_full : (st : State) (x : List Term × State) → opens 44 st ≡ true → rest_terms zero st ≡ Ok x → ⊥
+pub rest_full : (st : State) (x : List Term × State) → opens 44 st ≡ true → rest_terms zero st ≡ Ok x → ⊥
 unfolding terms_at
 rest_full st x t read =
     let one : (mark_at 44 st >>= λ c. terms_at zero c.1) ≡ Ok x = rw t at read in
     let b = bind_ok (mark_at 44 st) (λ c. terms_at zero c.1) x one in
     absurd_full b.0.1 x b.2
 
-rest_more : (room : ℕ) (st : State) → opens 44 st ≡ true → rest_terms (suc room) st ≡ ((mark_at 44 ▸ λ c. term_at) st >>= λ x. rest_terms room x.1 >>= put_term x)
+pub rest_more : (room : ℕ) (st : State) → opens 44 st ≡ true → rest_terms (suc room) st ≡ ((mark_at 44 ▸ λ c. term_at) st >>= λ x. rest_terms room x.1 >>= put_term x)
 unfolding ◌▸◌
 rest_more room st t =
     let one : rest_terms (suc room) st ≡ (mark_at 44 st >>= λ c. terms_at (suc room) c.1) = rw t refl in
@@ -188,43 +189,40 @@ reads_terms =
       begins = λ k said v more l. ap is_comma (mark_head _ 44 said v more l);
     }
 
-good_rest : Good (List Term) (NoMark 44) (at_most 31 comma_term) (rest_terms 31)
+good_rest : (most : ℕ) → Good (List Term) (NoMark 44) (at_most most comma_term) (rest_terms most)
 unfolding at_most
-good_rest = good_many Term comma_term (λ k. mark_at 44 ▸ λ c. term_at) is_comma (λ k room. rest_terms room) reads_terms 0 31
+good_rest most = good_many Term comma_term (λ k. mark_at 44 ▸ λ c. term_at) is_comma (λ k room. rest_terms room) reads_terms 0 most
 
-twin_terms : Good (List Term) (NoMark 44) terms (term_at ▸ λ t. rest_terms 31 ▸ λ ts. pure (t ∷ ts))
-twin_terms = seq good_term (λ t. seq_before good_rest (λ ts. good_before (List Term) Always (NoMark 44) (done (t ∷ ts)) (pure (t ∷ ts)) (ended (t ∷ ts)) (λ more f. tt)) (λ ts said y more m f. subst (NoMark 44) (sym (done_words (t ∷ ts) said y more m)) f))
+twin_terms : (most : Limits) → Good (List Term) (NoMark 44) (terms most) (term_at ▸ λ t. rest_terms (most 10) ▸ λ ts. pure (t ∷ ts))
+twin_terms most = seq good_term (λ t. seq_before (good_rest (most 10)) (λ ts. good_before (List Term) Always (NoMark 44) (done (t ∷ ts)) (pure (t ∷ ts)) (ended (t ∷ ts)) (λ more f. tt)) (λ ts said y more m f. subst (NoMark 44) (sym (done_words (t ∷ ts) said y more m)) f))
 
-good_terms : Good (List Term) (NoMark 44) terms (terms_at 32)
+good_terms : (most : Limits) → Good (List Term) (NoMark 44) (terms most) (terms_at (suc (most 10)))
 unfolding ◌▸◌ pure
-good_terms = good_same twin_terms (λ st. terms_more 31 st)
+good_terms most = good_same (twin_terms most) (λ st. terms_more (most 10) st)
 
 -- a row's terms begin with a number
-terms_head : (said : List Said) (v : List Term) (more : List Tok) → terms said v → is_fit (mark_fit 125 (head (words said ++ more))) ≡ false
-terms_head said v more l = then_head _ (λ o. is_fit (mark_fit 125 o) ≡ false) (λ s w m k. let h = number_head _ 160000 s w m k in ap (λ o. is_fit (mark_fit 125 o)) h.1) said v more l
+terms_head : (most : Limits) (said : List Said) (v : List Term) (more : List Tok) → terms most said v → is_fit (mark_fit 125 (head (words said ++ more))) ≡ false
+terms_head most said v more l = then_head _ (λ o. is_fit (mark_fit 125 o) ≡ false) (λ s w m k. let h = number_head _ 160000 s w m k in ap (λ o. is_fit (mark_fit 125 o)) h.1) said v more l
 
-good_inner : Good (List Term) (AtMark 125) (either (done []) terms) inner_terms_at
-unfolding inner_terms_at
-good_inner = good_if (List Term) (AtMark 125) (done []) terms (λ o. is_fit (mark_fit 125 o)) (λ st. Ok ([], st)) (terms_at 32)
-    (good_before (List Term) Always (AtMark 125) (done []) (λ st. Ok ([], st)) (good_done (List Term) []) (λ more f. tt)) (good_before (List Term) (NoMark 44) (AtMark 125) terms (terms_at 32) good_terms (λ more f. ap (λ o. is_fit (mark_fit 44 o)) f))
+good_inner : (most : Limits) → Good (List Term) (AtMark 125) (either (done []) (terms most)) (inner_terms_in most)
+unfolding inner_terms_in
+good_inner most = good_if (List Term) (AtMark 125) (done []) (terms most) (λ o. is_fit (mark_fit 125 o)) (λ st. Ok ([], st)) (terms_at (suc (most 10)))
+    (good_before (List Term) Always (AtMark 125) (done []) (λ st. Ok ([], st)) (good_done (List Term) []) (λ more f. tt)) (good_before (List Term) (NoMark 44) (AtMark 125) (terms most) (terms_at (suc (most 10))) (good_terms most) (λ more f. ap (λ o. is_fit (mark_fit 44 o)) f))
     (λ said v more l f. ap (λ ts. is_fit (mark_fit 125 (head ts))) (done_words [] said v more l) ∙ ap (λ o. is_fit (mark_fit 125 o)) f)
-    (λ said v more l f. terms_head said v more l)
+    (λ said v more l f. terms_head most said v more l)
 
-twin_row : Good (List Term) Always row (mark_at 123 ▸ λ a. inner_terms_at ▸ λ ts. mark_at 125 ▸ λ b. pure ts)
-twin_row = seq (good_mark 123) (λ a. seq_before good_inner (λ ts. seq (good_mark 125) (λ b. ended ts)) (λ ts said y more m f. mark_head _ 125 said y more m))
+good_row : (most : Limits) → Good (List Term) Always (row most) (row_in most)
+unfolding row_in
+good_row most = seq (good_mark 123) (λ a. seq_before (good_inner most) (λ ts. seq (good_mark 125) (λ b. ended ts)) (λ ts said y more m f. mark_head _ 125 said y more m))
 
-good_row : Good (List Term) Always row row_at
-unfolding row_at ◌▸◌ pure
-good_row = twin_row
+row_head : (most : Limits) (said : List Said) (v : List Term) (more : List Tok) → row most said v → head (words said ++ more) ≡ Some (MarkTok 123)
+row_head most said v more l = mark_head _ 123 said v more l
 
-row_head : (said : List Said) (v : List Term) (more : List Tok) → row said v → head (words said ++ more) ≡ Some (MarkTok 123)
-row_head said v more l = mark_head _ 123 said v more l
-
-good_any_row : Good (List Term) (NoMark 123) (either row (done [])) any_row_at
-unfolding any_row_at
-good_any_row = good_if (List Term) (NoMark 123) row (done []) (λ o. is_fit (mark_fit 123 o)) row_at (λ st. Ok ([], st))
-    (good_before (List Term) Always (NoMark 123) row row_at good_row (λ more f. tt)) (good_before (List Term) Always (NoMark 123) (done []) (λ st. Ok ([], st)) (good_done (List Term) []) (λ more f. tt))
-    (λ said v more l f. ap (λ o. is_fit (mark_fit 123 o)) (row_head said v more l))
+good_any_row : (most : Limits) → Good (List Term) (NoMark 123) (either (row most) (done [])) (any_row_in most)
+unfolding any_row_in
+good_any_row most = good_if (List Term) (NoMark 123) (row most) (done []) (λ o. is_fit (mark_fit 123 o)) (row_in most) (λ st. Ok ([], st))
+    (good_before (List Term) Always (NoMark 123) (row most) (row_in most) (good_row most) (λ more f. tt)) (good_before (List Term) Always (NoMark 123) (done []) (λ st. Ok ([], st)) (good_done (List Term) []) (λ more f. tt))
+    (λ said v more l f. ap (λ o. is_fit (mark_fit 123 o)) (row_head most said v more l))
     (λ said v more l f. ap (λ ts. is_fit (mark_fit 123 (head ts))) (done_words [] said v more l) ∙ f)
 
 abbrev Rows : Type 0
@@ -233,20 +231,17 @@ Rows = List Term × List Term
 abbrev no_rows : Rows
 no_rows = ([], [])
 
-twin_rows : Good Rows (AtMark 59) (row ▹ λ x. either row (done []) ▹ λ y. done (x, y)) (row_at ▸ λ x. any_row_at ▸ λ y. pure (x, y))
-twin_rows = seq good_row (λ x. seq_before good_any_row (λ y. good_before Rows Always (AtMark 59) (done (x, y)) (pure (x, y)) (ended (x, y)) (λ more f. tt))
+twin_rows : (most : Limits) → Good Rows (AtMark 59) (row most ▹ λ x. either (row most) (done []) ▹ λ y. done (x, y)) (row_in most ▸ λ x. any_row_in most ▸ λ y. pure (x, y))
+twin_rows most = seq (good_row most) (λ x. seq_before (good_any_row most) (λ y. good_before Rows Always (AtMark 59) (done (x, y)) (pure (x, y)) (ended (x, y)) (λ more f. tt))
     (λ y said v more m f. ap (λ ts. is_fit (mark_fit 123 (head ts))) (done_words (x, y) said v more m) ∙ ap (λ o. is_fit (mark_fit 123 o)) f))
 
-good_rows : Good Rows (AtMark 59) rows rows_at
-unfolding rows_at ◌▸◌ pure
-good_rows = good_if Rows (AtMark 59) (row ▹ λ x. either row (done []) ▹ λ y. done (x, y)) (done no_rows) (λ o. is_fit (mark_fit 123 o)) (row_at ▸ λ x. any_row_at ▸ λ y. pure (x, y)) (λ st. Ok (no_rows, st))
-    twin_rows (good_before Rows Always (AtMark 59) (done no_rows) (λ st. Ok (no_rows, st)) (good_done Rows no_rows) (λ more f. tt))
-    (λ said v more l f. ap (λ o. is_fit (mark_fit 123 o)) (then_head _ (λ o. o ≡ Some (MarkTok 123)) row_head said v more l))
+good_rows : (most : Limits) → Good Rows (AtMark 59) (rows most) (rows_in most)
+unfolding rows_in
+good_rows most = good_if Rows (AtMark 59) (row most ▹ λ x. either (row most) (done []) ▹ λ y. done (x, y)) (done no_rows) (λ o. is_fit (mark_fit 123 o)) (row_in most ▸ λ x. any_row_in most ▸ λ y. pure (x, y)) (λ st. Ok (no_rows, st))
+    (twin_rows most) (good_before Rows Always (AtMark 59) (done no_rows) (λ st. Ok (no_rows, st)) (good_done Rows no_rows) (λ more f. tt))
+    (λ said v more l f. ap (λ o. is_fit (mark_fit 123 o)) (then_head _ (λ o. o ≡ Some (MarkTok 123)) (row_head most) said v more l))
     (λ said v more l f. ap (λ ts. is_fit (mark_fit 123 (head ts))) (done_words no_rows said v more l) ∙ ap (λ o. is_fit (mark_fit 123 o)) f)
 
-twin_place : (before : ℕ) → Good Place Always (place before) (coordinates_at ▸ λ p. rows_at ▸ λ r. mark_at 59 ▸ λ c. pure (record { x = p.0; y = p.1; row_x = r.0; row_y = r.1 }))
-twin_place before = seq good_coordinates (λ p. seq_before good_rows (λ r. seq (good_mark 59) (λ c. ended (record { x = p.0; y = p.1; row_x = r.0; row_y = r.1 }))) (λ r said y more k f. mark_head _ 59 said y more k))
-
-pub good_place : (before : ℕ) → Good Place Always (place before) (place_at before)
-unfolding place_at ◌▸◌ pure
-good_place before = twin_place before
+pub good_place : (most : Limits) (before : ℕ) → Good Place Always (place most before) (place_in most before)
+unfolding place_in
+good_place most before = seq good_coordinates (λ p. seq_before (good_rows most) (λ r. seq (good_mark 59) (λ c. ended (record { x = p.0; y = p.1; row_x = r.0; row_y = r.1 }))) (λ r said y more k f. mark_head _ 59 said y more k))

@@ -8,12 +8,12 @@ use Rattle.std.proofs.lemmas.Str.Parse.{tells_all_ascii_digits, numerals_by_valu
 use Rattle.word_scan.specs.Decimals.{DecimalParts, IsDecimal, fraction_digits, signed, value}
 use Rattle.rule_reader.specs.Numbers.{places_of, with_sign}
 
-size_of_signed : (minus : Bool) (n : ℕ) → unsigned_abs (signed minus n) ≡ n
+pub size_of_signed : (minus : Bool) (n : ℕ) → unsigned_abs (signed minus n) ≡ n
 size_of_signed true zero = refl
 size_of_signed true (suc n) = refl
 size_of_signed false n = refl
 
-all_digits_both : (a b : List ℕ) → all_ascii_digits a ≡ true → all_ascii_digits b ≡ true → all_ascii_digits (a ++ b) ≡ true
+pub all_digits_both : (a b : List ℕ) → all_ascii_digits a ≡ true → all_ascii_digits b ≡ true → all_ascii_digits (a ++ b) ≡ true
 all_digits_both [] b p q = q
 all_digits_both (x ∷ a) b p q =
     let parts = tells_all_ascii_digits.parts x a p in

@@ -3,8 +3,10 @@
 -- Said       a word, and which point it names if it is an index
 -- L ▹ M      what L says, and then what M says of it
 -- many       entries one after another
+-- Limits     how many there are at most
+-- Derives    what the grammar says within limits, whatever the indices
 -- Admits     a whole file
-use Rattle.std.specs.Prelude.{◌≡◌, ℕ, zero, suc, ◌+◌, ◌<◌, ◌≤◌, Bool, true, false, ◌⊎◌, List, [], ◌∷◌, ◌++◌, length, map, Option, Some, None, ℤ, Result, Ok, Err}
+use Rattle.std.specs.Prelude.{◌≡◌, ℕ, zero, suc, ◌+◌, ◌<◌, ◌≤◌, Bool, true, false, ◌⊎◌, List, [], ◌∷◌, ◌++◌, length, map, slice_index, Option, Some, None, ℤ, Result, Ok, Err}
 use Rattle.std.specs.List.{AllByRecursion}
 use Rattle.word_scan.specs.Numerals.{whole_of}
 use Rattle.rule_reader.specs.declared.fault.RuleRefusal.{RuleRefusal}
@@ -65,6 +67,14 @@ many entry before said (x ∷ xs) = (front : List Said) × (back : List Said) ×
 -- as many, and at most so many
 unfoldable pub at_most : {A : Type 0} → ℕ → (ℕ → List Said → A → Type 0) → List Said → List A → Type 0
 at_most most entry said xs = many entry 0 said xs × (length xs ≤ most)
+
+-- how many there are at most, by the numbers that refusals have: 1 rules, 2 mappoints, 3 maplines, 4 newpoints, 5 newlines,
+-- 6 freearea, 7 freearea2, 8 elements, 9 orientations, 10 terms behind the first of a row, 11 bytes of a name
+abbrev pub Limits : Type 0
+Limits = ℕ → ℕ
+
+abbrev pub standard : Limits
+standard what = slice_index (0 ∷ 256 ∷ 16 ∷ 16 ∷ 8 ∷ 24 ∷ 24 ∷ 24 ∷ 8 ∷ 16 ∷ 31 ∷ 200 ∷ []) what
 
 -- ---- one word
 
@@ -139,19 +149,19 @@ map_line (suc before) = line Mapped Mapped
 abbrev pub term : List Said → Term → Type 0
 term = number 160000 ▹ λ c. variable ▹ λ v. done (record { coefficient = c; of_y = v.0; point = v.1 })
 
--- terms with commas between them, at most 32
-abbrev pub terms : List Said → List Term → Type 0
-terms = term ▹ λ t. at_most 31 (λ k. mark 44 ▹ λ c. term) ▹ λ ts. done (t ∷ ts)
+-- terms with commas between them
+abbrev pub terms : Limits → List Said → List Term → Type 0
+terms most = term ▹ λ t. at_most (most 10) (λ k. mark 44 ▹ λ c. term) ▹ λ ts. done (t ∷ ts)
 
-abbrev pub row : List Said → List Term → Type 0
-row = mark 123 ▹ λ a. either (done []) terms ▹ λ ts. mark 125 ▹ λ b. done ts
+abbrev pub row : Limits → List Said → List Term → Type 0
+row most = mark 123 ▹ λ a. either (done []) (terms most) ▹ λ ts. mark 125 ▹ λ b. done ts
 
 -- no row, the row of x, or the rows of x and y
-abbrev pub rows : List Said → List Term × List Term → Type 0
-rows = either (row ▹ λ x. either row (done []) ▹ λ y. done (x, y)) (done ([], []))
+abbrev pub rows : Limits → List Said → List Term × List Term → Type 0
+rows most = either (row most ▹ λ x. either (row most) (done []) ▹ λ y. done (x, y)) (done ([], []))
 
-abbrev pub place : ℕ → List Said → Place → Type 0
-place before = coordinates ▹ λ p. rows ▹ λ r. mark 59 ▹ λ c. done (record { x = p.0; y = p.1; row_x = r.0; row_y = r.1 })
+abbrev pub place : Limits → ℕ → List Said → Place → Type 0
+place most before = coordinates ▹ λ p. rows most ▹ λ r. mark 59 ▹ λ c. done (record { x = p.0; y = p.1; row_x = r.0; row_y = r.1 })
 
 abbrev pub pair : ℕ → List Said → ℕ × ℕ → Type 0
 pair before = ends Any Any ▹ λ e. mark 59 ▹ λ c. done e
@@ -172,38 +182,37 @@ unfoldable pub section_word : Parts → List Said → SectionKind → Type 0
 section_word parts said kind = (bytes : List ℕ) × (said ≡ plain (NameTok bytes) ∷ []) × (section_of bytes ≡ Some kind) × (has kind parts ≡ false)
 
 -- what stands behind the word of a section, and the parts with it
-abbrev pub content : Parts → SectionKind → List Said → Parts → Type 0
-content parts kind.Quality = quality ▹ λ x. done (record parts { quality = Some x })
-content parts kind.MapPoints = at_most 16 map_point ▹ λ x. done (record parts { points = Some x })
-content parts kind.MapLines = at_most 16 map_line ▹ λ x. done (record parts { lines = Some x })
-content parts kind.NewPoints = at_most 8 place ▹ λ x. done (record parts { new_points = Some x })
-content parts kind.NewLines = at_most 24 pair ▹ λ x. done (record parts { new_lines = Some x })
-content parts kind.FreeArea = at_most 24 place ▹ λ x. done (record parts { area = Some x })
-content parts kind.FreeArea2 = at_most 24 place ▹ λ x. done (record parts { limit = Some x })
-content parts kind.Elements = at_most 8 element ▹ λ x. done (record parts { elements = Some x })
-content parts kind.Orientations = at_most 16 turn ▹ λ x. done (record parts { turns = Some x })
+abbrev pub content : Limits → Parts → SectionKind → List Said → Parts → Type 0
+content most parts kind.Quality = quality ▹ λ x. done (record parts { quality = Some x })
+content most parts kind.MapPoints = at_most (most 2) map_point ▹ λ x. done (record parts { points = Some x })
+content most parts kind.MapLines = at_most (most 3) map_line ▹ λ x. done (record parts { lines = Some x })
+content most parts kind.NewPoints = at_most (most 4) (place most) ▹ λ x. done (record parts { new_points = Some x })
+content most parts kind.NewLines = at_most (most 5) pair ▹ λ x. done (record parts { new_lines = Some x })
+content most parts kind.FreeArea = at_most (most 6) (place most) ▹ λ x. done (record parts { area = Some x })
+content most parts kind.FreeArea2 = at_most (most 7) (place most) ▹ λ x. done (record parts { limit = Some x })
+content most parts kind.Elements = at_most (most 8) element ▹ λ x. done (record parts { elements = Some x })
+content most parts kind.Orientations = at_most (most 9) turn ▹ λ x. done (record parts { turns = Some x })
 
-abbrev pub section : Parts → List Said → Parts → Type 0
-section parts = section_word parts ▹ content parts
+abbrev pub section : Limits → Parts → List Said → Parts → Type 0
+section most parts = section_word parts ▹ content most parts
 
 -- so many sections
-unfoldable pub sections : ℕ → Parts → List Said → Parts → Type 0
-sections zero parts = done parts
-sections (suc count) parts = section parts ▹ sections count
+unfoldable pub sections : Limits → ℕ → Parts → List Said → Parts → Type 0
+sections most zero parts = done parts
+sections most (suc count) parts = section most parts ▹ sections most count
 
 -- ---- rules
 
--- at most 200 bytes
-unfoldable pub rule_name : List Said → List ℕ → Type 0
-rule_name said bytes = text said bytes × (length bytes ≤ 200)
+unfoldable pub rule_name : Limits → List Said → List ℕ → Type 0
+rule_name most said bytes = text said bytes × (length bytes ≤ most 11)
 
 -- sections, each of a kind that was not before
-unfoldable pub any_sections : List Said → Parts → Type 0
-any_sections said parts = (count : ℕ) × sections count empty_parts said parts
+unfoldable pub any_sections : Limits → List Said → Parts → Type 0
+any_sections most said parts = (count : ℕ) × sections most count empty_parts said parts
 
 -- a rule, whatever its indices
-abbrev pub rule_said : List Said → Rule → Type 0
-rule_said = name rule_word ▹ λ a. rule_name ▹ λ bytes. any_sections ▹ λ parts. name endrule_word ▹ λ b. done (rule_of bytes parts)
+abbrev pub rule_said : Limits → List Said → Rule → Type 0
+rule_said most = name rule_word ▹ λ a. rule_name most ▹ λ bytes. any_sections most ▹ λ parts. name endrule_word ▹ λ b. done (rule_of bytes parts)
 
 -- an index names a point that it may name
 abbrev pub Hits : ℕ → ℕ → Option Index → Type 0
@@ -217,7 +226,7 @@ pub record Fitting (said : List Said) (rule : Rule) : Type 0 where
   pub starts : loose_starts (length rule.points) rule.lines ≤ 3
 
 unfoldable pub whole_rule : ℕ → List Said → Rule → Type 0
-whole_rule before said rule = rule_said said rule × Fitting said rule
+whole_rule before said rule = rule_said standard said rule × Fitting said rule
 
 -- ---- files
 
@@ -225,7 +234,14 @@ abbrev pub tolfak : List Said → Unit {0} → Type 0
 tolfak = either (name tolfak_word ▹ λ a. number 160000 ▹ λ n. done tt) (done tt)
 
 abbrev pub file_said : List Said → List Rule → Type 0
-file_said = tolfak ▹ λ a. at_most 256 whole_rule
+file_said = tolfak ▹ λ a. at_most (standard 1) whole_rule
+
+abbrev pub file_form : Limits → List Said → List Rule → Type 0
+file_form most = tolfak ▹ λ a. at_most (most 1) (λ before. rule_said most)
+
+-- these words are a file with these rules within these limits, whatever the indices
+abbrev pub Derives : Limits → List Tok → List Rule → Type 0
+Derives most left rules = (said : List Said) × (words said ≡ left) × file_form most said rules
 
 -- these words are a file with these rules
 abbrev pub Admits : List Tok → List Rule → Type 0

@@ -4,3 +4,6 @@ pub mod Reading
 pub mod Verdict
 pub mod Sections
 pub mod Grammar
+pub mod Refusals
+pub mod Graph
+pub mod Normal

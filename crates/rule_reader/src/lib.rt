@@ -10,6 +10,7 @@ mod fault;
 pub mod laws;
 mod lists;
 mod numbers;
+mod printing;
 mod reader;
 mod rule;
 mod sections;
@@ -20,8 +21,12 @@ mod verdict;
 pub use fault::RuleRefusal;
 pub use grid_geom::Element;
 pub use lists::{Elements, MapLines, MapPoints, Pairs, Places, Row, Rules, Turns};
+pub use printing::print_rules;
 pub use rule::{MapLine, MapPoint, Place, Rule, Term, Triple};
+pub use std::alloc::AllocError as OutOfMemory;
 pub use text::read_rules;
 
 #[cfg(test)]
 mod tests;
+#[cfg(test)]
+mod texts;

@@ -154,12 +154,14 @@ impl<'a> Reader<'a> {
         self.tokens.len()
     }
 
+    /// The number of the rule that is being read.
     pub fn rule(&self) -> u64
         ensures { result ≡ self.now.rule }
     {
         self.rule
     }
 
+    /// The indices that this rule has used, in their order.
     pub fn uses(&self) -> &[Use]
         ensures { result.now ≡ self.now.uses }
     {
@@ -234,6 +236,7 @@ impl<'a> Reader<'a> {
         matches!(self.first(), Some(Token::Number(_)))
     }
 
+    /// This mark, and no other; Syntax where it doesn't come next.
     #[tactic(auto, unfolding(crate::specs::Reading::mark_at))]
     pub fn mark(&mut self, mark: u8) -> Result<(), Stop>
         ensures { Gives (λ x. x) result self.new (mark_at mark self.old) }
@@ -242,6 +245,7 @@ impl<'a> Reader<'a> {
         self.take(fit)
     }
 
+    /// This name, and no other; Syntax where it doesn't come next.
     #[tactic(auto, unfolding(crate::specs::Reading::name_at))]
     pub fn name(&mut self, name: &[u8]) -> Result<(), Stop>
         ensures { Gives (λ x. x) result self.new (name_at name.now self.old) }
@@ -260,6 +264,7 @@ impl<'a> Reader<'a> {
         self.take(fit)
     }
 
+    /// A quality, from 0 to 1,000; Number where another number comes next, else Syntax.
     #[tactic(auto, unfolding(crate::specs::Reading::quality_at))]
     pub fn quality(&mut self) -> Result<u32, Stop>
         ensures { Gives (λ x. x) result self.new (quality_at self.old) }

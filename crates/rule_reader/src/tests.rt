@@ -1,59 +1,177 @@
+//! What is read, printed and refused.
+
+ghost use Rattle.std.specs.Prelude.{◌≤◌, length};
+
 use super::*;
+use crate::texts::{HALF, TWELVE};
+use std::alloc::Global;
 use std::test::Fail;
 
-const CLOSE: &[u8] = b"rule \"Close\" # a comment
-quality 1
-mappoints
-(0, 0); (1, 0); (0.5, 0.866) { 0.05, 0, 1 };
-maplines
-(1, 2) del; (2, 3) del; (3, 1) del;
-freearea
-(0, 0);
-(1, 0) { 1 X2 } { };
-(0.5, 0.866) { 1 X3 } { 1 Y 3 };
-elements
-(1, 2, 3);
-endrule";
+/// The rules of a text.
+fn read(alloc: Global, text: &[u8]) -> Result<Rules, Fail> {
+    let rules = read_rules(alloc, text).ok().ok_or("the text is admitted")?;
+    Ok(rules)
+}
+
+/// The normal text of the rules of a text.
+fn normal(alloc: Global, text: &[u8]) -> Result<Vec<u8>, Fail> {
+    match read_rules(alloc, text) {
+        Ok(rules) => {
+            let text = print_rules(alloc, &rules)?;
+            Ok(text)
+        }
+        Err(_) => Err("the text is admitted".into()),
+    }
+}
+
+/// Where this part first stands in a text, or the text's end.
+fn place_of(text: &[u8], part: &[u8]) -> usize
+    ensures { result ≤ length text.now }
+{
+    for start in 0..text.len() {
+        if text[start..].starts_with(part) {
+            return start;
+        }
+    }
+    text.len()
+}
 
 #[test]
-fn a_rule_is_read(rt: HostRuntime) -> Result<(), Fail> {
-    let rules = read_rules(rt.alloc(), CLOSE).ok().ok_or("a rule")?;
-    assert_eq!(rt; rules.as_slice().len(), 1);
-    for rule in rules.as_slice() {
-        assert_eq!(rt; rule.name.as_slice(), b"Close".as_slice());
-        assert_eq!(rt; rule.quality, 1);
-        assert_eq!(rt; rule.points.as_slice().len(), 3);
-        assert_eq!(rt; rule.lines.as_slice().len(), 3);
-        assert_eq!(rt; rule.area.as_slice().len(), 3);
-        assert_eq!(rt; rule.elements.as_slice().len(), 1);
-    }
+fn the_twelve_rules(rt: HostRuntime) -> Result<(), Fail> {
+    let rules = read(rt.alloc(), TWELVE)?;
+    let [free, _, _, close, _, right, _, _, _, left_6, _, any] = rules.as_slice() else {
+        return Err("there are twelve rules".into());
+    };
+    assert_eq!(rt; free.name.as_slice(), b"Free Triangle (1)".as_slice());
+    assert_eq!(rt; free.quality, 1);
+    assert_eq!(rt; free.limit.as_slice().len(), 5);
+    let [new] = free.new_points.as_slice() else {
+        return Err("the first rule has one new point".into());
+    };
+    assert!(rt; new.x == 5000 && new.y == 8660);
+    let [term] = new.row_x.as_slice() else {
+        return Err("its first row has one term".into());
+    };
+    assert!(rt; term.coefficient == 5000 && !term.of_y && term.point == 2);
+    assert_eq!(rt; new.row_y.as_slice().len(), 0);
+    assert_eq!(rt; close.lines.as_slice().len(), 3);
+    assert_eq!(rt; right.new_lines.as_slice(), [(1, 3)].as_slice());
+    assert_eq!(rt; left_6.quality, 6);
+    let [_, line] = left_6.lines.as_slice() else {
+        return Err("the tenth rule has two lines".into());
+    };
+    assert!(rt;
+        line.i == 3
+            && line.j == 1
+            && line.del
+            && line.tol
+                == Triple {
+                    f1: 3000,
+                    f2: 0,
+                    f3: 3000
+                }
+    );
+    assert_eq!(rt; any.name.as_slice(), b"Any point".as_slice());
     Ok(())
 }
 
 #[test]
-fn refusals(rt: HostRuntime) {
+fn printed_and_read_again(rt: HostRuntime) -> Result<(), Fail> {
+    let text = normal(rt.alloc(), TWELVE)?;
+    let again = normal(rt.alloc(), &text)?;
+    assert!(rt; text.as_slice() == again.as_slice());
+    let (first, _) = TWELVE.split_at(place_of(TWELVE, b"\nrule"));
+    let one = normal(rt.alloc(), first)?;
+    assert!(rt; text.starts_with(&one));
+    Ok(())
+}
+
+#[test]
+fn normal_text(rt: HostRuntime) -> Result<(), Fail> {
+    let half = normal(rt.alloc(), HALF)?;
+    assert!(rt; half.as_slice() == HALF);
+    let other = normal(
+        rt.alloc(),
+        b"tolfak 0.5 rule \"A\" orientations (2, 1, 2); maplines (1, 2) del { +.05, -.5, 1000. }; mappoints (-1.50, 00.12345) del; (16, -0);
+newpoints (0, 0) { -2 X 1, 0.25 Y2 }; endrule",
+    )?;
     assert!(rt;
-        matches!(
-            read_rules(rt.alloc(), b"rule \"A\" elements (1, 2, 3, 1); endrule"),
-            Err(RuleRefusal::Syntax { word: 10 })
-        )
+        other.as_slice()
+            == b"rule \"A\"
+quality 1
+mappoints
+(-1.5, 0.1235) { 1, 0, 1 };
+(16, 0) { 1, 0, 1 };
+maplines
+(1, 2) { 0.05, -0.5, 1000 } del;
+newpoints
+(0, 0) { -2 X1, 0.25 Y2 } { };
+orientations
+(2, 1, 2);
+endrule
+"
+                .as_slice()
     );
-    assert!(rt;
-        matches!(
-            read_rules(rt.alloc(), b"rule \"A\" quality -1 endrule"),
-            Err(RuleRefusal::Number { word: 4 })
-        )
-    );
-    assert!(rt;
-        matches!(
-            read_rules(rt.alloc(), b"rule \"A\" endrule"),
-            Err(RuleRefusal::BadIndex { rule: 1, word: 3 })
-        )
-    );
-    assert!(rt;
-        matches!(
-            read_rules(rt.alloc(), b"tolfak 0.5 # and nothing more"),
-            Ok(_)
-        )
-    );
+    Ok(())
+}
+
+fn refusal(rt: &HostRuntime, text: &[u8]) -> Option<RuleRefusal> {
+    read_rules(rt.alloc(), text).err()
+}
+
+/// The first text, the part so often, and the last text.
+fn repeated(
+    alloc: Global,
+    first: &[u8],
+    part: &[u8],
+    times: usize,
+    last: &[u8],
+) -> Result<Vec<u8>, Fail> {
+    let mut text = Vec::new(alloc);
+    text.extend_from_slice(first)?;
+    for _ in 0..times {
+        text.extend_from_slice(part)?;
+    }
+    text.extend_from_slice(last)?;
+    Ok(text)
+}
+
+#[test]
+fn refusals(rt: HostRuntime) -> Result<(), Fail> {
+    let fourth = refusal(&rt, b"rule \"A\" elements (1, 2, 3, 1); endrule");
+    assert!(rt; fourth == Some(RuleRefusal::Syntax { word: 10 }));
+    let negative = refusal(&rt, b"rule \"A\" quality -1 endrule");
+    assert!(rt; negative == Some(RuleRefusal::Number { word: 4 }));
+    let no_line = refusal(&rt, b"rule \"A\" endrule");
+    assert!(rt; no_line == Some(RuleRefusal::BadIndex { rule: 1, word: 3 }));
+    assert!(rt; refusal(&rt, b"tolfak 0.5 # and nothing more").is_none());
+    Ok(())
+}
+
+#[test]
+fn refusals_past_a_limit(rt: HostRuntime) -> Result<(), Fail> {
+    let points = repeated(
+        rt.alloc(),
+        b"rule \"A\" mappoints",
+        b" (0, 0);",
+        17,
+        b" endrule",
+    )?;
+    assert!(rt; refusal(&rt, &points) == Some(RuleRefusal::TooMany { rule: 1, what: 2 }));
+    let rule = b"rule \"A\" mappoints (0, 0); (1, 0); maplines (1, 2); endrule\n";
+    let rules = repeated(rt.alloc(), b"", rule, 257, b"")?;
+    assert!(rt; refusal(&rt, &rules) == Some(RuleRefusal::TooMany { rule: 257, what: 1 }));
+    let most = repeated(rt.alloc(), b"", rule, 256, b"")?;
+    assert!(rt; refusal(&rt, &most).is_none());
+    Ok(())
+}
+
+#[test]
+fn loose_starts(rt: HostRuntime) -> Result<(), Fail> {
+    let (points, others) = HALF.split_at(place_of(HALF, b"maplines"));
+    let three = repeated(rt.alloc(), points, b"(2, 2);\n", 3, others)?;
+    assert!(rt; refusal(&rt, &three).is_none());
+    let four = repeated(rt.alloc(), points, b"(2, 2);\n", 4, others)?;
+    assert!(rt; refusal(&rt, &four) == Some(RuleRefusal::TooLoose { rule: 1 }));
+    Ok(())
 }

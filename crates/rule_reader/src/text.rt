@@ -1,10 +1,12 @@
 //! Reading a whole text.
 
-ghost use Rattle.std.specs.Prelude.{◌≡◌, ◌+◌, ◌-◌, ◌≤◌, ℕ, List, IfOk, length, map};
+ghost use Rattle.std.specs.Prelude.{◌≡◌, ◌+◌, ◌-◌, ◌≤◌, ℕ, List, IfOk, IfErr, length, map};
 ghost use Rattle.rule_reader.specs.Words.{seen, words_of};
 ghost use Rattle.rule_reader.specs.Reading.{Gives};
 ghost use Rattle.rule_reader.specs.declared.rule.Rule.{Rule};
 ghost use Rattle.rule_reader.specs.Grammar.{Admits, IsReadAs};
+ghost use Rattle.rule_reader.specs.Refusals.{Refuses};
+ghost use Rattle.rule_reader.specs.Normal.{CanPrint};
 ghost use Rattle.rule_reader.specs.Sections.{tolfak_at, rules_at, file_at, refusal_of, IsReading};
 
 use crate::fault::{Fault, RuleRefusal, Stop};
@@ -116,12 +118,17 @@ fn text(alloc: Global, bytes: &[u8]) -> Result<Rules, RuleRefusal>
 
 /// The rules of a text in the form of NETGEN's planar rule files (Schöberl 1997).
 ///
-/// A text that is none is refused at its first fault from left to right, as [`RuleRefusal`] says.
+/// A text that is none is refused at the first word from left to right with which no text goes on, or where
+/// a limit is passed or a rule is wrong, as [`RuleRefusal`] says.
 pub fn read_rules(alloc: Global, bytes: &[u8]) -> Result<Rules, RuleRefusal>
     // What is read is what the grammar says of the words.
     ensures found { IfOk result (λ rules. Admits (words_of bytes.now) rules) }
     // What the grammar says of the words is read, unless memory runs out.
     ensures only { (rules : List Rule) → Admits (words_of bytes.now) rules → IsReadAs result rules }
+    // What is refused stands at the first word with which no text goes on, or at the first rule that is wrong, and is of its kind.
+    ensures refused { IfErr result (Refuses (words_of bytes.now)) }
+    // What is read can be printed.
+    ensures printable { IfOk result CanPrint }
     // Which refusal it is: the first fault that is met.
     ensures exact { IsReading result (words_of bytes.now) }
 {

@@ -1,3 +1,4 @@
+use Rattle.rule_reader.proofs.Refused.{is_refused}
 use Rattle.std.proofs.Common.{◌≡◌, List, Result, Ok, Err, sym, ap, ◌∙◌}
 use Rattle.std.specs.Prelude.{IfOk}
 use Rattle.rule_reader.specs.declared.fault.Fault.{Fault}
@@ -9,6 +10,7 @@ use Rattle.rule_reader.specs.Sections.{reading, IsReading}
 use Rattle.rule_reader.specs.Grammar.{Admits, IsReadAs}
 use Rattle.rule_reader.proofs.Good.{ok_is}
 use Rattle.rule_reader.proofs.GoodFile.{file_takes, file_again}
+use Rattle.rule_reader.proofs.Printable.{is_printable}
 use Rattle.rule_reader.proofs.text.read_rules.Goals as goal
 
 is_found : (words : List Tok) (r : Result (List Rule) RuleRefusal) → IsReading r words → IfOk r (λ rules. Admits words rules)
@@ -32,3 +34,9 @@ returns-clause-found c = is_found (words_of c.args.bytes.now) c.text.result c.te
 
 pub returns-clause-only : goal.returns-clause-only
 returns-clause-only c = λ rules admits. is_only (words_of c.args.bytes.now) c.text.result rules c.text.ensures admits
+
+pub returns-clause-refused : goal.returns-clause-refused
+returns-clause-refused c = is_refused (words_of c.args.bytes.now) c.text.result c.text.ensures
+
+pub returns-clause-printable : goal.returns-clause-printable
+returns-clause-printable c = is_printable c.args.bytes.now c.text.result (is_found (words_of c.args.bytes.now) c.text.result c.text.ensures)
