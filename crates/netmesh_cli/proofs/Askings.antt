@@ -7,7 +7,7 @@ use Rattle.netmesh_cli.specs.declared.words_fault.WordsFault.{WordsFault}
 use Rattle.netmesh_cli.specs.declared.outcome.Outcome.{Outcome}
 use Rattle.netmesh_cli.specs.declared.outcome.Outcome.TheVariants.{Refused}
 use Rattle.netmesh_cli.specs.declared.outcome.Refusal.{Refusal}
-use Rattle.netmesh_cli.specs.declared.outcome.Refusal.TheVariants.{Words, In2d, Geometry, Folder, Out, Memory, NotYet}
+use Rattle.netmesh_cli.specs.declared.outcome.Refusal.TheVariants.{Words, In2d, Geometry, Rules, Folder, Out, Memory, NotYet}
 use Rattle.netmesh_cli.specs.Commands.{Task, MeshOf, GeomOf, RulesOf, CheckOf, ViewOf, ReplayOf, GenOf, IsCommand, IsFault}
 use Rattle.netmesh_cli.specs.declared.asked.Asked.{Asked}
 use Rattle.netmesh_cli.specs.Words.{MeshNames, mesh_task, task_asked, IsUnbuilt, AskForUnbuilt, WordsRefused}
@@ -25,6 +25,7 @@ not_asked words task built asked (Geometry fault) refused = refused
 not_asked words task built asked (Folder name number) refused = refused
 not_asked words task built asked Out refused = refused
 not_asked words task built asked Memory refused = refused
+not_asked words task built asked (Rules fault) refused = refused
 not_asked words task built asked (NotYet part) refused = built (subst IsUnbuilt (one_command words refused.1.task task refused.1.command asked) refused.1.unbuilt)
 
 at_fault : (words : List (List ℕ)) (fault : WordsFault) → IsFault words fault → (r : Refusal) → WordsRefused words r → IsWordsOrMemory fault r
@@ -34,6 +35,7 @@ at_fault words fault is (Geometry why) refused = absurd refused
 at_fault words fault is (Folder name number) refused = absurd refused
 at_fault words fault is Out refused = absurd refused
 at_fault words fault is Memory refused = absurd refused
+at_fault words fault is (Rules why) refused = absurd refused
 at_fault words fault is (NotYet part) refused = absurd (never_both words refused.1.task fault refused.1.command is)
 
 not_built : (words : List (List ℕ)) → AskForUnbuilt words → (r : Refusal) → WordsRefused words r → IsNotYetOrMemory 1 r
@@ -43,6 +45,7 @@ not_built words ask (Geometry fault) refused = absurd refused
 not_built words ask (Folder name number) refused = absurd refused
 not_built words ask Out refused = absurd refused
 not_built words ask Memory refused = absurd refused
+not_built words ask (Rules fault) refused = absurd refused
 not_built words ask (NotYet part) refused = refused.0
 
 pub answer_at_fault : (words : List (List ℕ)) (w0 w1 : Option (List ℕ)) (u : Type 0) (given result : Refusal) (held : Option Files) → WordsRefused words given → Telling w0 w1 u given result → (fault : WordsFault) → IsFault words fault → WordsAnswer (IsWordsOrMemory fault) (Refused result) held held

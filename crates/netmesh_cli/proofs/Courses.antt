@@ -4,7 +4,7 @@ use Rattle.std.specs.Prelude.{Option, None, Some}
 use Rattle.folder_io.specs.Causes.{Told, ToldBoth}
 use Rattle.folder_io.specs.Names.{Files}
 use Rattle.netmesh_cli.specs.declared.outcome.Refusal.{Refusal}
-use Rattle.netmesh_cli.specs.declared.outcome.Refusal.TheVariants.{Words, In2d, Geometry, Folder, Out, Memory, NotYet}
+use Rattle.netmesh_cli.specs.declared.outcome.Refusal.TheVariants.{Words, In2d, Geometry, Rules, Folder, Out, Memory, NotYet}
 use Rattle.netmesh_cli.specs.Words.{MeshNames}
 use Rattle.netmesh_cli.specs.Causes.{IsFolderFault, PutRefused, AnswerRefused}
 use Rattle.netmesh_cli.specs.Accepted.{HoldsSomePlain, IsSomeAccepted}
@@ -40,6 +40,7 @@ cause_at_geometry names held failed untaken (Geometry fault) h = h
 cause_at_geometry names held failed untaken (Folder name number) h = folder_of_geometry names held failed name number h.0 h.1
 cause_at_geometry names held failed untaken Out h = absurd h
 cause_at_geometry names held failed untaken Memory h = tt
+cause_at_geometry names held failed untaken (Rules fault) h = absurd h
 cause_at_geometry names held failed untaken (NotYet part) h = of_a_size h.0 h.1
 
 cause_at_rules : (names : MeshNames) (held : Option Files) (failed : List ℕ → Type 0) (untaken : Type 0) (r : Refusal) → Told held (HoldsSomePlain names.geometry) → RulesRefused held names.rules (failed names.rules) r → RefusalCause names held failed untaken r
@@ -49,6 +50,7 @@ cause_at_rules names held failed untaken (Geometry fault) accepted h = absurd h
 cause_at_rules names held failed untaken (Folder name number) accepted h = folder_of_rules names held failed name number h.0 accepted h.1
 cause_at_rules names held failed untaken Out accepted h = absurd h
 cause_at_rules names held failed untaken Memory accepted h = tt
+cause_at_rules names held failed untaken (Rules fault) accepted h = (accepted, h)
 cause_at_rules names held failed untaken (NotYet part) accepted h = of_the_rules h.0 accepted h.1
 
 cause_at_log : (names : MeshNames) (held : Option Files) (failed : List ℕ → Type 0) (untaken : Type 0) (r : Refusal) → Told held (IsSomeAccepted names) → PutRefused names.log (failed names.log) r → RefusalCause names held failed untaken r
@@ -58,6 +60,7 @@ cause_at_log names held failed untaken (Geometry fault) accepted h = absurd h
 cause_at_log names held failed untaken (Folder name number) accepted h = of_log h.0 accepted h.1 (subst failed (sym h.0) h.2)
 cause_at_log names held failed untaken Out accepted h = absurd h
 cause_at_log names held failed untaken Memory accepted h = tt
+cause_at_log names held failed untaken (Rules fault) accepted h = absurd h
 cause_at_log names held failed untaken (NotYet part) accepted h = absurd h
 
 cause_at_mesh : (names : MeshNames) (held : Option Files) (failed : List ℕ → Type 0) (untaken : Type 0) (r : Refusal) → Told held (IsSomeAccepted names) → PutRefused names.mesh (failed names.mesh) r → RefusalCause names held failed untaken r
@@ -67,6 +70,7 @@ cause_at_mesh names held failed untaken (Geometry fault) accepted h = absurd h
 cause_at_mesh names held failed untaken (Folder name number) accepted h = of_mesh h.0 accepted h.1 (subst failed (sym h.0) h.2)
 cause_at_mesh names held failed untaken Out accepted h = absurd h
 cause_at_mesh names held failed untaken Memory accepted h = tt
+cause_at_mesh names held failed untaken (Rules fault) accepted h = absurd h
 cause_at_mesh names held failed untaken (NotYet part) accepted h = absurd h
 
 cause_at_answer : (names : MeshNames) (held : Option Files) (failed : List ℕ → Type 0) (untaken : Type 0) (r : Refusal) → Told held (IsSomeAccepted names) → AnswerRefused untaken r → RefusalCause names held failed untaken r
@@ -76,6 +80,7 @@ cause_at_answer names held failed untaken (Geometry fault) accepted h = absurd h
 cause_at_answer names held failed untaken (Folder name number) accepted h = absurd h
 cause_at_answer names held failed untaken Out accepted h = (accepted, h)
 cause_at_answer names held failed untaken Memory accepted h = tt
+cause_at_answer names held failed untaken (Rules fault) accepted h = absurd h
 cause_at_answer names held failed untaken (NotYet part) accepted h = absurd h
 
 pub cause_of : (names : MeshNames) (before after : Option Files) (failed : List ℕ → Type 0) (untaken : Type 0) (r : Refusal) → Course names before after failed untaken r → RefusalCause names before failed untaken r

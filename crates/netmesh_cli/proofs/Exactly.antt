@@ -1,10 +1,12 @@
 -- Which answers may come of files that are told: an answer that has its cause is the only one where the causes of the others don't hold.
-use Rattle.std.proofs.Common.{◌≡◌, ℕ, ◌<◌, List, length, sym, subst, ◌∙◌, ap, arith}
+use Rattle.std.proofs.Common.{◌≡◌, ℕ, ◌<◌, List, [], length, inl, inr, sym, subst, refl, ◌∙◌, ap, arith}
 use Rattle.std.specs.Prelude.{Option, None, Some, MatchOption}
 use Rattle.folder_io.specs.Causes.{Rose, Told, ToldBoth}
 use Rattle.folder_io.specs.Names.{Files}
 use Rattle.in2d_reader.specs.declared.geometry.RawGeometry.{RawGeometry}
 use Rattle.in2d_reader.specs.declared.refusal.In2dRefusal.{In2dRefusal}
+use Rattle.rule_reader.specs.declared.fault.RuleRefusal.{RuleRefusal}
+use Rattle.rule_reader.specs.declared.rule.Rule.{Rule}
 use Rattle.geom_check.specs.declared.refusal.GeomRefusal.{GeomRefusal}
 use Rattle.geom_check.specs.Accepted.{IsAccepted as IsAcceptedRaw}
 use Rattle.geom_check.specs.Refused.{IsRefusal}
@@ -12,16 +14,16 @@ use Rattle.mesh_run.specs.declared.End.{End}
 use Rattle.mesh_run.specs.declared.End.TheVariants.{Done as DoneEnd, Stuck as StuckEnd, Stopped as StoppedEnd}
 use Rattle.netmesh_cli.specs.declared.outcome.Outcome.TheVariants.{Shown, Refused}
 use Rattle.netmesh_cli.specs.declared.outcome.Refusal.{Refusal}
-use Rattle.netmesh_cli.specs.declared.outcome.Refusal.TheVariants.{Words, In2d, Geometry, Folder, Out, Memory, NotYet}
+use Rattle.netmesh_cli.specs.declared.outcome.Refusal.TheVariants.{Words, In2d, Geometry, Rules, Folder, Out, Memory, NotYet}
 use Rattle.netmesh_cli.specs.declared.TheConstants.{FILE_LIMIT}
 use Rattle.netmesh_cli.specs.Words.{MeshNames}
 use Rattle.netmesh_cli.specs.Causes.{Holds, IsMemory, IsFolderFault, call_failed, too_long, missing}
-use Rattle.netmesh_cli.specs.Accepted.{IsText, IsBlank, HoldsSized, HoldsTextFault, HoldsMapFault, HoldsNoText, HoldsNoMap, HoldsRules, RefusesRules, HoldsSomeMap, HoldsSomePlain, IsSomeAccepted, keeps_size}
+use Rattle.netmesh_cli.specs.Accepted.{IsText, AreRules, HoldsSized, HoldsTextFault, HoldsMapFault, HoldsNoText, HoldsNoMap, HoldsRuleless, HoldsRules, HoldsRulesFault, HoldsNoRuleFile, HoldsSomeMap, HoldsSomePlain, IsSomeAccepted, keeps_size}
 use Rattle.netmesh_cli.specs.Course.{IsMeshed}
 use Rattle.netmesh_cli.specs.Drawn.{IsDrawn, DrawingCause}
 use Rattle.netmesh_cli.specs.Stands.{RefusalCause, FolderCause, of_geometry, of_rules, of_log, of_mesh, NotYetCause, of_a_size, of_the_rules}
-use Rattle.netmesh_cli.specs.Top.{IsIn2dOrFolder, IsGeometryOrFolder, IsNotYetOrFolder, IsEndOr, MeshExactly, GeomExactly, outcome_of}
-use Rattle.netmesh_cli.proofs.Excluded.{excluded, text_once}
+use Rattle.netmesh_cli.specs.Top.{IsIn2dOrFolder, IsGeometryOrFolder, IsThisOrFolder, IsRulesOrFolder, IsNotYetOrFolder, IsEndOr, MeshExactly, GeomExactly, outcome_of}
+use Rattle.netmesh_cli.proofs.Excluded.{excluded, fault_once, text_once, rules_once}
 
 -- ---- what can't be held together
 
@@ -51,11 +53,42 @@ map_fault_without_text files name fault faulty none = none.none faulty.why.raw (
 map_fault_with_map : (files : Files) (name : List ℕ) (fault : GeomRefusal) → HoldsMapFault files name fault → ¬ HoldsSomeMap name files
 map_fault_with_map files name fault faulty some = excluded some.0 some.2.accepted.map.accepted fault faulty.why.named (subst (λ (raw : RawGeometry). IsRefusal raw fault) (raw_once files name faulty.bytes some.2.bytes faulty.why.raw some.0 faulty.holds some.2.holds faulty.why.text some.2.accepted.text) faulty.why.refused)
 
+-- one fault of a geometry is held
+one_map_fault : (files : Files) (name : List ℕ) (one other : GeomRefusal) → HoldsMapFault files name one → HoldsMapFault files name other → one ≡ other
+one_map_fault files name one other first second = fault_once second.why.raw one other first.why.named second.why.named (subst (λ (raw : RawGeometry). IsRefusal raw one) (raw_once files name first.bytes second.bytes first.why.raw second.why.raw first.holds second.holds first.why.text second.why.text) first.why.refused) second.why.refused
+
+no_map_at_fault : (files : Files) (name : List ℕ) (fault : GeomRefusal) → HoldsMapFault files name fault → HoldsNoMap files name
+no_map_at_fault files name fault faulty = record { bytes = faulty.bytes; holds = faulty.holds; raw = faulty.why.raw; text = faulty.why.text; unaccepted = λ accepted. excluded faulty.why.raw accepted fault faulty.why.named faulty.why.refused }
+
+-- a refusal of the geometry is of the fault that is held
+of_map_fault : (files : Files) (name : List ℕ) (fault : GeomRefusal) → HoldsMapFault files name fault → (r : Refusal) → ((other : GeomRefusal) → r ≡ Geometry other → HoldsMapFault files name other) → IsGeometryOrFolder r → IsThisOrFolder (Geometry fault) r
+of_map_fault files name fault faulty (Words other) held refused = absurd refused
+of_map_fault files name fault faulty (In2d other) held refused = absurd refused
+of_map_fault files name fault faulty (Geometry other) held refused = inl (ap Geometry (one_map_fault files name other fault (held other refl) faulty))
+of_map_fault files name fault faulty (Rules other) held refused = absurd refused
+of_map_fault files name fault faulty (Folder named number) held refused = inr tt
+of_map_fault files name fault faulty Out held refused = absurd refused
+of_map_fault files name fault faulty Memory held refused = inr tt
+of_map_fault files name fault faulty (NotYet part) held refused = absurd refused
+
 sized_and_plain : (files : Files) (name : List ℕ) → HoldsSized files name → ¬ HoldsSomePlain name files
 sized_and_plain files name sized some = let e = ap keeps_size (raw_once files name sized.held.bytes some.1.held.bytes sized.raw some.1.raw sized.held.holds some.1.held.holds sized.held.accepted.text some.1.held.accepted.text) in let t = sized.sized in let f = some.1.plain in absurd (cc)
 
-rules_or_not : (files : Files) (name : List ℕ) → HoldsRules files name → ¬ RefusesRules files name
-rules_or_not files name holds refuses = refuses.refused (subst IsBlank (held_once files name holds.bytes refuses.bytes holds.holds refuses.holds) holds.accepted)
+-- and so one list of rules
+rules_held_once : (files : Files) (name first second : List ℕ) (rules other : List Rule) → Holds files name first → Holds files name second → AreRules first rules → AreRules second other → rules ≡ other
+rules_held_once files name first second rules other one two are again = rules_once second rules other (subst (λ (b : List ℕ). AreRules b rules) (held_once files name first second one two) are) again
+
+no_rules_or_some : (files : Files) (name : List ℕ) → HoldsRuleless files name → ¬ HoldsRules files name
+no_rules_or_some files name none ruled = ruled.ruled.some (rules_held_once files name ruled.bytes none.bytes ruled.ruled.rules [] ruled.holds none.holds ruled.ruled.are none.accepted)
+
+file_without_rule : (files : Files) (name : List ℕ) → HoldsNoRuleFile files name → ¬ HoldsRuleless files name
+file_without_rule files name no_file none = no_file.none [] (subst (λ (b : List ℕ). AreRules b []) (held_once files name none.bytes no_file.bytes none.holds no_file.holds) none.accepted)
+
+file_without_rules : (files : Files) (name : List ℕ) → HoldsNoRuleFile files name → ¬ HoldsRules files name
+file_without_rules files name no_file ruled = no_file.none ruled.ruled.rules (subst (λ (b : List ℕ). AreRules b ruled.ruled.rules) (held_once files name ruled.bytes no_file.bytes ruled.holds no_file.holds) ruled.ruled.are)
+
+no_file_at_fault : (files : Files) (name : List ℕ) (fault : RuleRefusal) → HoldsRulesFault files name fault → HoldsNoRuleFile files name
+no_file_at_fault files name fault faulty = record { bytes = faulty.bytes; holds = faulty.holds; none = faulty.why.none }
 
 map_of_plain : (files : Files) (name : List ℕ) → HoldsSomePlain name files → HoldsSomeMap name files
 map_of_plain files name some = (some.1.raw, some.0, some.1.held)
@@ -83,19 +116,24 @@ folder_failed names files failed name number some (of_mesh e accepted one h) = h
 -- a part that isn't built yet is told of an accepted geometry
 part_of_map : (names : MeshNames) (files : Files) (part : ℕ) → NotYetCause names (Some files) part → HoldsSomeMap names.geometry files
 part_of_map names files part (of_a_size e sized) = map_of_sized files names.geometry sized
-part_of_map names files part (of_the_rules e some refuses) = map_of_plain files names.geometry some
+part_of_map names files part (of_the_rules e some ruled) = map_of_plain files names.geometry some
 
 part_of_size : (names : MeshNames) (files : Files) (part : ℕ) → HoldsSized files names.geometry → NotYetCause names (Some files) part → part ≡ 2
 part_of_size names files part sized (of_a_size e again) = e
-part_of_size names files part sized (of_the_rules e some refuses) = absurd (sized_and_plain files names.geometry sized some)
+part_of_size names files part sized (of_the_rules e some ruled) = absurd (sized_and_plain files names.geometry sized some)
 
 part_of_rules : (names : MeshNames) (files : Files) (part : ℕ) → HoldsSomePlain names.geometry files → NotYetCause names (Some files) part → part ≡ 3
 part_of_rules names files part some (of_a_size e sized) = absurd (sized_and_plain files names.geometry sized some)
-part_of_rules names files part some (of_the_rules e other refuses) = e
+part_of_rules names files part some (of_the_rules e other ruled) = e
+
+-- no part is told of bytes that are no rule file
+no_part_at_fault : (names : MeshNames) (files : Files) (part : ℕ) → HoldsSomePlain names.geometry files → HoldsNoRuleFile files names.rules → ¬ NotYetCause names (Some files) part
+no_part_at_fault names files part some no_file (of_a_size e sized) = sized_and_plain files names.geometry sized some
+no_part_at_fault names files part some no_file (of_the_rules e other ruled) = file_without_rules files names.rules no_file ruled
 
 no_part : (names : MeshNames) (files : Files) (part : ℕ) → IsSomeAccepted names files → NotYetCause names (Some files) part → ⊥
 no_part names files part some (of_a_size e sized) = sized_and_plain files names.geometry sized (some_plain names files some)
-no_part names files part some (of_the_rules e other refuses) = rules_or_not files names.rules some.1.rules refuses
+no_part names files part some (of_the_rules e other ruled) = no_rules_or_some files names.rules some.1.rules ruled
 
 after_text : (names : MeshNames) (files : Files) (failed : List ℕ → Type 0) (untaken : Type 0) (r : Refusal) → HoldsNoText files names.geometry → RefusalCause names (Some files) failed untaken r → IsIn2dOrFolder r
 after_text names files failed untaken (Words fault) none cause = absurd cause
@@ -104,6 +142,7 @@ after_text names files failed untaken (Geometry fault) none cause = absurd (map_
 after_text names files failed untaken (Folder name number) none cause = tt
 after_text names files failed untaken Out none cause = absurd (map_without_text files names.geometry (map_of_plain files names.geometry (some_plain names files cause.0)) none)
 after_text names files failed untaken Memory none cause = tt
+after_text names files failed untaken (Rules fault) none cause = absurd (map_without_text files names.geometry (map_of_plain files names.geometry cause.0) none)
 after_text names files failed untaken (NotYet part) none cause = absurd (map_without_text files names.geometry (part_of_map names files part cause) none)
 
 after_map : (names : MeshNames) (files : Files) (failed : List ℕ → Type 0) (untaken : Type 0) (r : Refusal) → HoldsNoMap files names.geometry → RefusalCause names (Some files) failed untaken r → IsGeometryOrFolder r
@@ -113,6 +152,7 @@ after_map names files failed untaken (Geometry fault) none cause = tt
 after_map names files failed untaken (Folder name number) none cause = tt
 after_map names files failed untaken Out none cause = absurd (map_without_map files names.geometry (map_of_plain files names.geometry (some_plain names files cause.0)) none)
 after_map names files failed untaken Memory none cause = tt
+after_map names files failed untaken (Rules fault) none cause = absurd (map_without_map files names.geometry (map_of_plain files names.geometry cause.0) none)
 after_map names files failed untaken (NotYet part) none cause = absurd (map_without_map files names.geometry (part_of_map names files part cause) none)
 
 after_size : (names : MeshNames) (files : Files) (failed : List ℕ → Type 0) (untaken : Type 0) (r : Refusal) → HoldsSized files names.geometry → RefusalCause names (Some files) failed untaken r → IsNotYetOrFolder 2 r
@@ -122,16 +162,28 @@ after_size names files failed untaken (Geometry fault) sized cause = absurd (map
 after_size names files failed untaken (Folder name number) sized cause = tt
 after_size names files failed untaken Out sized cause = absurd (sized_and_plain files names.geometry sized (some_plain names files cause.0))
 after_size names files failed untaken Memory sized cause = tt
+after_size names files failed untaken (Rules fault) sized cause = absurd (sized_and_plain files names.geometry sized cause.0)
 after_size names files failed untaken (NotYet part) sized cause = part_of_size names files part sized cause
 
-after_rules : (names : MeshNames) (files : Files) (failed : List ℕ → Type 0) (untaken : Type 0) (r : Refusal) → HoldsSomePlain names.geometry files → RefusesRules files names.rules → RefusalCause names (Some files) failed untaken r → IsNotYetOrFolder 3 r
-after_rules names files failed untaken (Words fault) some refuses cause = absurd cause
-after_rules names files failed untaken (In2d fault) some refuses cause = absurd (text_fault_with_map files names.geometry fault cause (map_of_plain files names.geometry some))
-after_rules names files failed untaken (Geometry fault) some refuses cause = absurd (map_fault_with_map files names.geometry fault cause (map_of_plain files names.geometry some))
-after_rules names files failed untaken (Folder name number) some refuses cause = tt
-after_rules names files failed untaken Out some refuses cause = absurd (rules_or_not files names.rules cause.0.1.rules refuses)
-after_rules names files failed untaken Memory some refuses cause = tt
-after_rules names files failed untaken (NotYet part) some refuses cause = part_of_rules names files part some cause
+after_no_rules : (names : MeshNames) (files : Files) (failed : List ℕ → Type 0) (untaken : Type 0) (r : Refusal) → HoldsSomePlain names.geometry files → HoldsNoRuleFile files names.rules → RefusalCause names (Some files) failed untaken r → IsRulesOrFolder r
+after_no_rules names files failed untaken (Words fault) some none cause = absurd cause
+after_no_rules names files failed untaken (In2d fault) some none cause = absurd (text_fault_with_map files names.geometry fault cause (map_of_plain files names.geometry some))
+after_no_rules names files failed untaken (Geometry fault) some none cause = absurd (map_fault_with_map files names.geometry fault cause (map_of_plain files names.geometry some))
+after_no_rules names files failed untaken (Rules fault) some none cause = tt
+after_no_rules names files failed untaken (Folder name number) some none cause = tt
+after_no_rules names files failed untaken Out some none cause = absurd (file_without_rule files names.rules none cause.0.1.rules)
+after_no_rules names files failed untaken Memory some none cause = tt
+after_no_rules names files failed untaken (NotYet part) some none cause = absurd (no_part_at_fault names files part some none cause)
+
+after_rules : (names : MeshNames) (files : Files) (failed : List ℕ → Type 0) (untaken : Type 0) (r : Refusal) → HoldsSomePlain names.geometry files → HoldsRules files names.rules → RefusalCause names (Some files) failed untaken r → IsNotYetOrFolder 3 r
+after_rules names files failed untaken (Words fault) some ruled cause = absurd cause
+after_rules names files failed untaken (In2d fault) some ruled cause = absurd (text_fault_with_map files names.geometry fault cause (map_of_plain files names.geometry some))
+after_rules names files failed untaken (Geometry fault) some ruled cause = absurd (map_fault_with_map files names.geometry fault cause (map_of_plain files names.geometry some))
+after_rules names files failed untaken (Rules fault) some ruled cause = absurd (file_without_rules files names.rules (no_file_at_fault files names.rules fault cause.1) ruled)
+after_rules names files failed untaken (Folder name number) some ruled cause = tt
+after_rules names files failed untaken Out some ruled cause = absurd (no_rules_or_some files names.rules cause.0.1.rules ruled)
+after_rules names files failed untaken Memory some ruled cause = tt
+after_rules names files failed untaken (NotYet part) some ruled cause = part_of_rules names files part some cause
 
 after_accepted : (names : MeshNames) (files : Files) (failed : List ℕ → Type 0) (untaken : Type 0) (r : Refusal) → IsSomeAccepted names files → ((name : List ℕ) → ¬ failed name) → ¬ untaken → RefusalCause names (Some files) failed untaken r → IsMemory r
 after_accepted names files failed untaken (Words fault) some unfailed taken cause = cause
@@ -140,6 +192,7 @@ after_accepted names files failed untaken (Geometry fault) some unfailed taken c
 after_accepted names files failed untaken (Folder name number) some unfailed taken cause = unfailed name (folder_failed names files failed name number some cause)
 after_accepted names files failed untaken Out some unfailed taken cause = taken cause.1
 after_accepted names files failed untaken Memory some unfailed taken cause = tt
+after_accepted names files failed untaken (Rules fault) some unfailed taken cause = file_without_rule files names.rules (no_file_at_fault files names.rules fault cause.1) some.1.rules
 after_accepted names files failed untaken (NotYet part) some unfailed taken cause = no_part names files part some cause
 
 pub refused_exactly : (names : MeshNames) (held : Option Files) (f0 f1 : ℕ) (last : List ℕ) (untaken : Type 0) (r : Refusal) → RefusalCause names held (λ name. Rose f0 f1 × (last ≡ name)) untaken r → Told held (λ files. MeshExactly names (Refused r) files (Rose f0 f1) untaken)
@@ -147,8 +200,10 @@ refused_exactly names None f0 f1 last untaken r cause = tt
 refused_exactly names (Some files) f0 f1 last untaken r cause = let failed : List ℕ → Type 0 = λ name. Rose f0 f1 × (last ≡ name) in record {
   text_refused = λ none. after_text names files failed untaken r none cause;
   map_refused = λ none. after_map names files failed untaken r none cause;
+  map_fault = λ fault faulty. of_map_fault files names.geometry fault faulty r (λ other e. subst (λ (r : Refusal). RefusalCause names (Some files) failed untaken r) e cause) (after_map names files failed untaken r (no_map_at_fault files names.geometry fault faulty) cause);
   size_refused = λ sized. after_size names files failed untaken r sized cause;
-  rules_refused = λ some refuses. after_rules names files failed untaken r some refuses cause;
+  rules_refused = λ some none. after_no_rules names files failed untaken r some none cause;
+  rules_not_built = λ some ruled. after_rules names files failed untaken r some ruled cause;
   complete = λ some unfailed taken. after_accepted names files failed untaken r some (λ name failed. unfailed failed.0) taken cause;
 }
 
@@ -161,8 +216,10 @@ ended_at : (names : MeshNames) (files : Files) (ended : End) (failed untaken : T
 ended_at names files ended failed untaken some = let plain = some_plain names files some in record {
   text_refused = λ none. absurd (map_without_text files names.geometry (map_of_plain files names.geometry plain) none);
   map_refused = λ none. absurd (map_without_map files names.geometry (map_of_plain files names.geometry plain) none);
+  map_fault = λ fault faulty. absurd (map_fault_with_map files names.geometry fault faulty (map_of_plain files names.geometry plain));
   size_refused = λ sized. absurd (sized_and_plain files names.geometry sized plain);
-  rules_refused = λ _ refuses. absurd (rules_or_not files names.rules some.1.rules refuses);
+  rules_refused = λ _ none. absurd (file_without_rule files names.rules none some.1.rules);
+  rules_not_built = λ _ ruled. absurd (no_rules_or_some files names.rules some.1.rules ruled);
   complete = λ _ _ _. end_or_memory ended;
 }
 
@@ -180,6 +237,7 @@ text_drawn name files failed untaken (Geometry fault) none cause = absurd (map_f
 text_drawn name files failed untaken (Folder named number) none cause = tt
 text_drawn name files failed untaken Out none cause = absurd (map_without_text files name cause.0 none)
 text_drawn name files failed untaken Memory none cause = tt
+text_drawn name files failed untaken (Rules fault) none cause = absurd cause
 text_drawn name files failed untaken (NotYet part) none cause = absurd cause
 
 map_drawn : (name : List ℕ) (files : Files) (failed untaken : Type 0) (r : Refusal) → HoldsNoMap files name → DrawingCause name (Some files) failed untaken r → IsGeometryOrFolder r
@@ -189,6 +247,7 @@ map_drawn name files failed untaken (Geometry fault) none cause = tt
 map_drawn name files failed untaken (Folder named number) none cause = tt
 map_drawn name files failed untaken Out none cause = absurd (map_without_map files name cause.0 none)
 map_drawn name files failed untaken Memory none cause = tt
+map_drawn name files failed untaken (Rules fault) none cause = absurd cause
 map_drawn name files failed untaken (NotYet part) none cause = absurd cause
 
 accepted_drawn : (name : List ℕ) (files : Files) (failed untaken : Type 0) (r : Refusal) → HoldsSomeMap name files → ¬ failed → ¬ untaken → DrawingCause name (Some files) failed untaken r → IsMemory r
@@ -198,6 +257,7 @@ accepted_drawn name files failed untaken (Geometry fault) some unfailed taken ca
 accepted_drawn name files failed untaken (Folder named number) some unfailed taken cause = unfailed (only_failed files name some.2.bytes failed number some.2.holds cause.1)
 accepted_drawn name files failed untaken Out some unfailed taken cause = taken cause.1
 accepted_drawn name files failed untaken Memory some unfailed taken cause = tt
+accepted_drawn name files failed untaken (Rules fault) some unfailed taken cause = cause
 accepted_drawn name files failed untaken (NotYet part) some unfailed taken cause = cause
 
 pub drawing_exactly : (name : List ℕ) (held : Option Files) (f0 f1 : ℕ) (last : List ℕ) (untaken : Type 0) (r : Refusal) → DrawingCause name held (Rose f0 f1 × (last ≡ name)) untaken r → Told held (λ files. GeomExactly name (Refused r) files (Rose f0 f1) untaken)
@@ -205,6 +265,7 @@ drawing_exactly name None f0 f1 last untaken r cause = tt
 drawing_exactly name (Some files) f0 f1 last untaken r cause = record {
   text_refused = λ none. text_drawn name files (Rose f0 f1 × (last ≡ name)) untaken r none cause;
   map_refused = λ none. map_drawn name files (Rose f0 f1 × (last ≡ name)) untaken r none cause;
+  map_fault = λ fault faulty. of_map_fault files name fault faulty r (λ other e. subst (λ (r : Refusal). DrawingCause name (Some files) (Rose f0 f1 × (last ≡ name)) untaken r) e cause) (map_drawn name files (Rose f0 f1 × (last ≡ name)) untaken r (no_map_at_fault files name fault faulty) cause);
   complete = λ some unfailed taken. accepted_drawn name files (Rose f0 f1 × (last ≡ name)) untaken r some (λ failed. unfailed failed.0) taken cause;
 }
 
@@ -212,6 +273,7 @@ shown_at : (name : List ℕ) (files : Files) (failed untaken : Type 0) → Holds
 shown_at name files failed untaken some = record {
   text_refused = λ none. map_without_text files name some none;
   map_refused = λ none. map_without_map files name some none;
+  map_fault = λ fault faulty. map_fault_with_map files name fault faulty some;
   complete = λ _ _ _. tt;
 }
 

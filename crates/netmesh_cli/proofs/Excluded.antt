@@ -1,20 +1,33 @@
--- A geometry that is refused is not accepted, and a text writes one geometry, which lies on the grid in one way.
-use Rattle.std.proofs.Common.{◌≡◌, ◌≢◌, List, ℕ, sym, subst, ◌∙◌}
+-- A geometry that is refused is not accepted, and has one fault, a text writes one geometry, which lies on the grid in one way, and a rule file has one list of rules.
+use Rattle.std.proofs.Common.{◌≡◌, ◌≢◌, ◌⊎◌, inl, inr, List, ℕ, sym, subst, ◌∙◌}
 use Rattle.word_scan.specs.Scan.{words_of}
 use Rattle.in2d_reader.specs.declared.geometry.RawGeometry.{RawGeometry}
 use Rattle.in2d_reader.proofs.Refused.{found_is_read}
+use Rattle.rule_reader.specs.declared.rule.Rule.{Rule}
+use Rattle.rule_reader.specs.Words.{words_of as rule_words_of}
+use Rattle.rule_reader.proofs.GoodFile.{one_value}
 use Rattle.geom_check.specs.declared.refusal.GeomRefusal.{GeomRefusal}
 use Rattle.geom_check.specs.declared.refusal.GeomRefusal.TheVariants.{Memory}
 use Rattle.geom_check.specs.Accepted.{IsAccepted}
 use Rattle.geom_check.specs.Refused.{IsRefusal}
 use Rattle.geom_check.specs.Geometry.{PlanarMap, IsGeometryOf}
 use Rattle.geom_check.proofs.OneAnswer.{accepted_unrefused}
+use Rattle.geom_check.proofs.OneRefusal.{one_refusal}
 use Rattle.geom_check.proofs.OneGeometry.{one_geometry}
-use Rattle.netmesh_cli.specs.Accepted.{IsText, IsMapText}
+use Rattle.netmesh_cli.specs.Accepted.{IsText, IsMapText, AreRules}
 
 -- an accepted geometry is refused only for want of memory
 pub excluded : (raw : RawGeometry) → IsAccepted raw → (r : GeomRefusal) → r ≢ Memory → ¬ IsRefusal raw r
 excluded raw accepted r named refused = named (accepted_unrefused raw r accepted refused)
+
+-- a geometry has one fault
+pub fault_once : (raw : RawGeometry) (r s : GeomRefusal) → r ≢ Memory → s ≢ Memory → IsRefusal raw r → IsRefusal raw s → r ≡ s
+fault_once raw r s r_named s_named first second = unless (one_refusal raw r s first second)
+  where
+    unless : (r ≡ s) ⊎ ((r ≡ Memory) ⊎ (s ≡ Memory)) → r ≡ s
+    unless (inl same) = same
+    unless (inr (inl memory)) = absurd (r_named memory)
+    unless (inr (inr memory)) = absurd (s_named memory)
 
 -- a text writes one geometry
 pub text_once : (bytes : List ℕ) (raw other : RawGeometry) → IsText bytes raw → IsText bytes other → raw ≡ other
@@ -22,3 +35,7 @@ text_once bytes raw other first second = let e = sym (found_is_read (words_of by
 
 pub map_once : (bytes : List ℕ) (raw other : RawGeometry) (g h : PlanarMap) → IsMapText bytes raw g → IsMapText bytes other h → (raw ≡ other) × (g ≡ h)
 map_once bytes raw other g h one two = let e = text_once bytes raw other one.text two.text in (e, one_geometry other g h (subst (λ (r : RawGeometry). IsGeometryOf r g) e one.map) two.map)
+
+-- a rule file has one list of rules
+pub rules_once : (bytes : List ℕ) (rules other : List Rule) → AreRules bytes rules → AreRules bytes other → rules ≡ other
+rules_once bytes rules other first second = one_value (rule_words_of bytes) rules other first second

@@ -6,12 +6,12 @@ use Rattle.folder_io.specs.Causes.{Rose, Told, ToldBoth}
 use Rattle.folder_io.proofs.Counts.{rose_from_earlier}
 use Rattle.folder_io.specs.Names.{Files, SameBut}
 use Rattle.netmesh_cli.specs.declared.outcome.Refusal.{Refusal}
-use Rattle.netmesh_cli.specs.declared.outcome.Refusal.TheVariants.{Words, In2d, Geometry, Folder, Out, Memory, NotYet}
+use Rattle.netmesh_cli.specs.declared.outcome.Refusal.TheVariants.{Words, In2d, Geometry, Rules, Folder, Out, Memory, NotYet}
 use Rattle.geom_check.specs.Geometry.{PlanarMap}
 use Rattle.mesh_run.specs.declared.End.{End}
 use Rattle.netmesh_cli.specs.Words.{MeshNames}
 use Rattle.netmesh_cli.specs.Causes.{IsMemory, IsFolderFault, call_failed, too_long, missing, PutRefused, AnswerRefused, AnswerLeaves}
-use Rattle.netmesh_cli.specs.Accepted.{IsAccepted, HoldsPlain, HoldsRules, run_of, log_of, mesh_of, line_of, IsCovered}
+use Rattle.netmesh_cli.specs.Accepted.{IsAccepted, HoldsPlain, HoldsRuleless, run_of, log_of, mesh_of, line_of, IsCovered}
 use Rattle.netmesh_cli.specs.Course.{RulesRefused, Course, at_rules, at_work, at_log, at_mesh, at_answer, StopsAtLog, StopsAtMesh, HasBoth, IsMeshed, IsSummary, WrittenBefore, with_log, with_both}
 use Rattle.netmesh_cli.proofs.Courses.{told_both_weaker}
 
@@ -20,7 +20,7 @@ told_weaker None P Q all told = tt
 told_weaker (Some files) P Q all told = all files told
 
 -- both files that are taken are accepted, where both were read
-accepted_both : (names : MeshNames) (held : Option Files) (g : PlanarMap) → Told held (λ files. HoldsPlain files names.geometry g) → Told held (λ files. HoldsRules files names.rules) → Told held (λ files. IsAccepted files names g)
+accepted_both : (names : MeshNames) (held : Option Files) (g : PlanarMap) → Told held (λ files. HoldsPlain files names.geometry g) → Told held (λ files. HoldsRuleless files names.rules) → Told held (λ files. IsAccepted files names g)
 accepted_both names None g of_geometry of_rules = tt
 accepted_both names (Some files) g of_geometry of_rules = record { geometry = of_geometry; rules = of_rules }
 
@@ -49,6 +49,7 @@ rules_since held name f0 f1 f2 last kept (Geometry fault) h = h
 rules_since held name f0 f1 f2 last kept (Folder named number) h = (h.0, fault_since held name f0 f1 f2 last kept number h.1)
 rules_since held name f0 f1 f2 last kept Out h = h
 rules_since held name f0 f1 f2 last kept Memory h = h
+rules_since held name f0 f1 f2 last kept (Rules fault) h = h
 rules_since held name f0 f1 f2 last kept (NotYet number) h = h
 
 put_since : (name : List ℕ) (f0 f1 f2 : ℕ) (last : List ℕ) → f0 ≤ f1 → (r : Refusal) → PutRefused name (Rose f1 f2 × (last ≡ name)) r → PutRefused name (Rose f0 f2 × (last ≡ name)) r
@@ -58,14 +59,15 @@ put_since name f0 f1 f2 last kept (Geometry fault) h = h
 put_since name f0 f1 f2 last kept (Folder named number) h = (h.0, h.1, (rose_from_earlier f0 f1 f2 kept h.2.0, h.2.1))
 put_since name f0 f1 f2 last kept Out h = h
 put_since name f0 f1 f2 last kept Memory h = h
+put_since name f0 f1 f2 last kept (Rules fault) h = h
 put_since name f0 f1 f2 last kept (NotYet number) h = h
 
 pub exit_at_rules : (names : MeshNames) (h0 h1 h2 : Option Files) (f0 f1 f2 : ℕ) (last : List ℕ) (untaken : Type 0) (g : PlanarMap) (r : Refusal) → h1 ≡ h0 → h2 ≡ h1 → f0 ≤ f1 → Told h0 (λ files. HoldsPlain files names.geometry g) → RulesRefused h1 names.rules (Rose f1 f2 × (last ≡ names.rules)) r → Course names h0 h2 (λ name. Rose f0 f2 × (last ≡ name)) untaken r
 exit_at_rules names h0 h1 h2 f0 f1 f2 last untaken g r first second kept accepted refused = at_rules (second ∙ first) (told_weaker h0 _ _ (λ files holds. (g, holds)) accepted) (rules_since h0 names.rules f0 f1 f2 last kept r (subst (λ (h : Option Files). RulesRefused h names.rules (Rose f1 f2 × (last ≡ names.rules)) r) first refused))
 
 -- what the two takes ensured, over the files held at the start
-pub accepted_at_start : (names : MeshNames) (h0 h1 : Option Files) (g : PlanarMap) → h1 ≡ h0 → Told h0 (λ files. HoldsPlain files names.geometry g) → Told h1 (λ files. HoldsRules files names.rules) → Told h0 (λ files. IsAccepted files names g)
-accepted_at_start names h0 h1 g same of_geometry of_rules = accepted_both names h0 g of_geometry (subst (λ (h : Option Files). Told h (λ files. HoldsRules files names.rules)) same of_rules)
+pub accepted_at_start : (names : MeshNames) (h0 h1 : Option Files) (g : PlanarMap) → h1 ≡ h0 → Told h0 (λ files. HoldsPlain files names.geometry g) → Told h1 (λ files. HoldsRuleless files names.rules) → Told h0 (λ files. IsAccepted files names g)
+accepted_at_start names h0 h1 g same of_geometry of_rules = accepted_both names h0 g of_geometry (subst (λ (h : Option Files). Told h (λ files. HoldsRuleless files names.rules)) same of_rules)
 
 pub exit_at_work : (names : MeshNames) (h0 h1 : Option Files) (failed : List ℕ → Type 0) (untaken : Type 0) (g : PlanarMap) (r : Refusal) → h1 ≡ h0 → Told h0 (λ files. IsAccepted files names g) → IsMemory r → Course names h0 h1 failed untaken r
 exit_at_work names h0 h1 failed untaken g (Words fault) same accepted memory = absurd memory
@@ -74,6 +76,7 @@ exit_at_work names h0 h1 failed untaken g (Geometry fault) same accepted memory 
 exit_at_work names h0 h1 failed untaken g (Folder name number) same accepted memory = absurd memory
 exit_at_work names h0 h1 failed untaken g Out same accepted memory = absurd memory
 exit_at_work names h0 h1 failed untaken g Memory same accepted memory = at_work same (told_weaker h0 _ _ (λ files both. (g, both)) accepted)
+exit_at_work names h0 h1 failed untaken g (Rules fault) same accepted memory = absurd memory
 exit_at_work names h0 h1 failed untaken g (NotYet number) same accepted memory = absurd memory
 
 pub exit_at_log : (names : MeshNames) (h0 h1 h2 : Option Files) (f0 f1 f2 : ℕ) (last : List ℕ) (untaken : Type 0) (g : PlanarMap) (r : Refusal) → h1 ≡ h0 → f0 ≤ f1 → Told h0 (λ files. IsAccepted files names g) → ToldBoth h1 h2 (SameBut names.log) → PutRefused names.log (Rose f1 f2 × (last ≡ names.log)) r → Course names h0 h2 (λ name. Rose f0 f2 × (last ≡ name)) untaken r
@@ -104,6 +107,7 @@ written_answer IsAnswer w0 w1 bytes (Geometry fault) is h = h
 written_answer IsAnswer w0 w1 bytes (Folder named number) is h = h
 written_answer IsAnswer w0 w1 bytes Out is h = (bytes, is, h)
 written_answer IsAnswer w0 w1 bytes Memory is h = h
+written_answer IsAnswer w0 w1 bytes (Rules fault) is h = h
 written_answer IsAnswer w0 w1 bytes (NotYet number) is h = h
 
 pub is_summary : (names : MeshNames) (held : Option Files) (g : PlanarMap) (bytes : List ℕ) → bytes ≡ line_of g → Told held (λ files. IsAccepted files names g) → IsSummary names held bytes

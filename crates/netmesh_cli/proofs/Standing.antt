@@ -4,7 +4,7 @@ use Rattle.std.specs.Prelude.{Option}
 use Rattle.folder_io.specs.Causes.{ToldBoth}
 use Rattle.folder_io.specs.Names.{Files, held_at}
 use Rattle.netmesh_cli.specs.declared.outcome.Refusal.{Refusal}
-use Rattle.netmesh_cli.specs.declared.outcome.Refusal.TheVariants.{Words, In2d, Geometry, Folder, Out, Memory, NotYet}
+use Rattle.netmesh_cli.specs.declared.outcome.Refusal.TheVariants.{Words, In2d, Geometry, Rules, Folder, Out, Memory, NotYet}
 use Rattle.netmesh_cli.specs.Words.{MeshNames}
 use Rattle.netmesh_cli.specs.Causes.{PutRefused, AnswerRefused}
 use Rattle.netmesh_cli.specs.Accepted.{log_of}
@@ -93,6 +93,7 @@ stands_at_geometry names held failed (Geometry fault) h files = refl
 stands_at_geometry names held failed (Folder name number) h files = same_stands names files name number (inl h.0)
 stands_at_geometry names held failed Out h files = absurd h
 stands_at_geometry names held failed Memory h files = tt
+stands_at_geometry names held failed (Rules fault) h files = refl
 stands_at_geometry names held failed (NotYet number) h files = refl
 
 stands_at_rules : (names : MeshNames) (held : Option Files) (failed : Type 0) (r : Refusal) → RulesRefused held names.rules failed r → (files : Files) → RefusalStands names files files r
@@ -102,6 +103,7 @@ stands_at_rules names held failed (Geometry fault) h files = refl
 stands_at_rules names held failed (Folder name number) h files = same_stands names files name number (inr h.0)
 stands_at_rules names held failed Out h files = absurd h
 stands_at_rules names held failed Memory h files = tt
+stands_at_rules names held failed (Rules fault) h files = refl
 stands_at_rules names held failed (NotYet number) h files = refl
 
 stands_at_log : (names : MeshNames) → names.mesh ≢ names.log → (failed : Type 0) (r : Refusal) → PutRefused names.log failed r → (old new : Files) → StopsAtLog names old new → RefusalStands names old new r
@@ -111,6 +113,7 @@ stands_at_log names apart failed (Geometry fault) h old new s = absurd h
 stands_at_log names apart failed (Folder name number) h old new s = log_stands names apart old new name number h.0 h.1 s
 stands_at_log names apart failed Out h old new s = absurd h
 stands_at_log names apart failed Memory h old new s = tt
+stands_at_log names apart failed (Rules fault) h old new s = absurd h
 stands_at_log names apart failed (NotYet part) h old new s = absurd h
 
 stands_at_mesh : (names : MeshNames) → names.mesh ≢ names.log → (failed : Type 0) (r : Refusal) → PutRefused names.mesh failed r → (old new : Files) → StopsAtMesh names old new → RefusalStands names old new r
@@ -120,6 +123,7 @@ stands_at_mesh names apart failed (Geometry fault) h old new s = absurd h
 stands_at_mesh names apart failed (Folder name number) h old new s = mesh_stands names apart old new name number h.0 h.1 s
 stands_at_mesh names apart failed Out h old new s = absurd h
 stands_at_mesh names apart failed Memory h old new s = tt
+stands_at_mesh names apart failed (Rules fault) h old new s = absurd h
 stands_at_mesh names apart failed (NotYet part) h old new s = absurd h
 
 stands_at_answer : (names : MeshNames) (untaken : Type 0) (r : Refusal) → AnswerRefused untaken r → (old new : Files) → HasBoth names old new → RefusalStands names old new r
@@ -129,6 +133,7 @@ stands_at_answer names untaken (Geometry fault) h old new s = absurd h
 stands_at_answer names untaken (Folder name number) h old new s = absurd h
 stands_at_answer names untaken Out h old new s = s
 stands_at_answer names untaken Memory h old new s = tt
+stands_at_answer names untaken (Rules fault) h old new s = absurd h
 stands_at_answer names untaken (NotYet part) h old new s = absurd h
 
 pub stands_of : (names : MeshNames) → names.mesh ≢ names.log → (before after : Option Files) (failed : List ℕ → Type 0) (untaken : Type 0) (r : Refusal) → Course names before after failed untaken r → ToldBoth before after (λ old new. RefusalStands names old new r)

@@ -8,7 +8,7 @@ use Rattle.mesh_run.specs.declared.End.{End}
 use Rattle.mesh_run.specs.declared.End.TheVariants.{Done as DoneEnd, Stuck as StuckEnd, Stopped as StoppedEnd}
 use Rattle.netmesh_cli.specs.declared.outcome.Outcome.TheVariants.{Shown, Refused}
 use Rattle.netmesh_cli.specs.declared.outcome.Refusal.{Refusal}
-use Rattle.netmesh_cli.specs.declared.outcome.Refusal.TheVariants.{Words, In2d, Geometry, Folder, Out, Memory, NotYet}
+use Rattle.netmesh_cli.specs.declared.outcome.Refusal.TheVariants.{Words, In2d, Geometry, Rules, Folder, Out, Memory, NotYet}
 use Rattle.netmesh_cli.specs.Words.{MeshNames}
 use Rattle.netmesh_cli.specs.Course.{Course, IsMeshed, IsSummary, WrittenBefore}
 use Rattle.netmesh_cli.specs.Drawn.{IsDrawn, IsDrawing, DrawingCause}
@@ -37,6 +37,7 @@ unwritten_before IsAnswer w0 w1 (Geometry fault) has written = written
 unwritten_before IsAnswer w0 w1 (Folder name number) has written = written
 unwritten_before IsAnswer w0 w1 Out has written = absurd has
 unwritten_before IsAnswer w0 w1 Memory has written = absurd has
+unwritten_before IsAnswer w0 w1 (Rules fault) has written = written
 unwritten_before IsAnswer w0 w1 (NotYet part) has written = written
 
 writes_line : (before after : Option (List ℕ)) (untaken : Type 0) (given : Refusal) → HasLine given → ToldBoth before after (λ old new. (new ≡ old ++ refusal_line given) ⊎ (untaken × GrowsByPrefix (refusal_line given) old new)) → WritesLine before after untaken given
@@ -46,6 +47,7 @@ writes_line before after untaken (Geometry fault) has told = told
 writes_line before after untaken (Folder name number) has told = told
 writes_line before after untaken Out has told = absurd has
 writes_line before after untaken Memory has told = absurd has
+writes_line before after untaken (Rules fault) has told = told
 writes_line before after untaken (NotYet part) has told = told
 
 no_line_told : (IsAnswer : List ℕ → Type 0) (w0 w1 w2 : Option (List ℕ)) (untaken : Type 0) (given : Refusal) → WrittenBefore IsAnswer w0 w1 given → ¬ HasLine given → w2 ≡ w1 → WritesLine w0 w2 untaken given
@@ -55,6 +57,7 @@ no_line_told IsAnswer w0 w1 w2 untaken (Geometry fault) written none kept = absu
 no_line_told IsAnswer w0 w1 w2 untaken (Folder name number) written none kept = absurd (none tt)
 no_line_told IsAnswer w0 w1 w2 untaken Out written none kept = tt
 no_line_told IsAnswer w0 w1 w2 untaken Memory written none kept = kept ∙ written
+no_line_told IsAnswer w0 w1 w2 untaken (Rules fault) written none kept = absurd (none tt)
 no_line_told IsAnswer w0 w1 w2 untaken (NotYet part) written none kept = absurd (none tt)
 
 line_of_told : (w0 w1 w2 : Option (List ℕ)) (s0 s1 s2 : ℕ) (given : Refusal) → w1 ≡ w0 → s0 ≤ s1 → HasLine given → ToldBoth w1 w2 (λ old new. (new ≡ old ++ refusal_line given) ⊎ (Rose s1 s2 × GrowsByPrefix (refusal_line given) old new)) → WritesLine w0 w2 (Rose s0 s2) given
@@ -86,6 +89,7 @@ cause_later names held failed s0 s1 s2 (Geometry fault) later cause = cause
 cause_later names held failed s0 s1 s2 (Folder name number) later cause = cause
 cause_later names held failed s0 s1 s2 Out later cause = (cause.0, rose_until_later s0 s1 s2 cause.1 later)
 cause_later names held failed s0 s1 s2 Memory later cause = cause
+cause_later names held failed s0 s1 s2 (Rules fault) later cause = cause
 cause_later names held failed s0 s1 s2 (NotYet part) later cause = cause
 
 stands_told : (names : MeshNames) (before after : Option Files) (w0 w1 : Option (List ℕ)) (u : Type 0) (given result : Refusal) → Telling w0 w1 u given result → ToldBoth before after (Keeps names) → ToldBoth before after (λ old new. RefusalStands names old new given) → ToldBoth before after (λ old new. RefusalStands names old new result)
@@ -144,6 +148,7 @@ drawing_later name held failed s0 s1 s2 (Geometry fault) later cause = cause
 drawing_later name held failed s0 s1 s2 (Folder named number) later cause = cause
 drawing_later name held failed s0 s1 s2 Out later cause = (cause.0, rose_until_later s0 s1 s2 cause.1 later)
 drawing_later name held failed s0 s1 s2 Memory later cause = cause
+drawing_later name held failed s0 s1 s2 (Rules fault) later cause = cause
 drawing_later name held failed s0 s1 s2 (NotYet part) later cause = cause
 
 pub drawing_told : (name : List ℕ) (held : Option Files) (failed : Type 0) (s0 s1 s2 : ℕ) (w0 w1 : Option (List ℕ)) (u : Type 0) (given result : Refusal) → s1 ≤ s2 → Telling w0 w1 u given result → DrawingCause name held failed (Rose s0 s1) given → DrawingCause name held failed (Rose s0 s2) result

@@ -3,11 +3,13 @@
 -- IsText        the bytes are the text of a geometry
 -- IsTextFault   why they are the text of none
 -- IsMapFault    why the geometry that they are the text of is not accepted
+-- AreRules      the bytes are a rule file with these rules
+-- IsRulesFault  why they are no rule file
 -- keeps_size    whether a geometry gives a size that has an effect
 -- run_of ..     the run of a geometry by no rule, and what is put and written of it
 -- IsCovered     the run's fronts wind as the boundaries of the domains do
 -- Holds..       what is held under a name
-use Rattle.std.specs.Prelude.{◌≡◌, ◌≢◌, ℕ, pos, Bool, true, false, ◌||◌, List, Option, None, Some, All, AllPairs}
+use Rattle.std.specs.Prelude.{◌≡◌, ◌≢◌, ℕ, pos, Bool, true, false, ◌||◌, List, [], Option, None, Some, All, AllPairs}
 use Rattle.std.specs.List.{list_any}
 use Rattle.std.specs.Int.{is_positive}
 use Rattle.grid_geom.specs.declared.RatPoint.{RatPoint}
@@ -15,7 +17,6 @@ use Rattle.grid_geom.specs.declared.TheConstants.{LONGEST}
 use Rattle.grid_geom.specs.Plane.{IsRational}
 use Rattle.grid_geom.specs.Winding.{wind}
 use Rattle.grid_geom.specs.Closed.{IsOff}
-use Rattle.word_scan.specs.Bytes.{is_white}
 use Rattle.word_scan.specs.Scan.{words_of}
 use Rattle.word_scan.specs.declared.decimals.Dec.{Dec}
 use Rattle.in2d_reader.specs.declared.geometry.RawGeometry.{RawGeometry}
@@ -23,6 +24,12 @@ use Rattle.in2d_reader.specs.declared.refusal.In2dRefusal.{In2dRefusal}
 use Rattle.in2d_reader.specs.declared.refusal.In2dRefusal.TheVariants.{Memory as NoMemoryToRead}
 use Rattle.in2d_reader.specs.Grammar.{Derives, Fits}
 use Rattle.in2d_reader.specs.Refusals.{Refuses}
+use Rattle.rule_reader.specs.declared.fault.RuleRefusal.{RuleRefusal}
+use Rattle.rule_reader.specs.declared.fault.RuleRefusal.TheVariants.{Memory as NoMemoryForRules}
+use Rattle.rule_reader.specs.declared.rule.Rule.{Rule}
+use Rattle.rule_reader.specs.Words.{words_of as rule_words_of}
+use Rattle.rule_reader.specs.Grammar.{Admits}
+use Rattle.rule_reader.specs.Refusals.{Refuses as RefusesRuleWords}
 use Rattle.geom_check.specs.declared.refusal.GeomRefusal.{GeomRefusal}
 use Rattle.geom_check.specs.declared.refusal.GeomRefusal.TheVariants.{Memory as NoMemoryToCheck}
 use Rattle.geom_check.specs.Boundary.{boundary, edges_of}
@@ -77,9 +84,27 @@ has_size (Some size) = is_positive size.digits
 abbrev pub keeps_size : RawGeometry → Bool
 keeps_size raw = list_any (λ row. has_size row.maxh) raw.points || (list_any (λ row. has_size row.maxh) raw.segments || list_any (λ row. has_size row.maxh) raw.materials)
 
--- a rule file without a word
-abbrev pub IsBlank : List ℕ → Type 0
-IsBlank bytes = All (λ b. is_white b ≡ true) bytes
+-- ---- rule files
+
+-- the bytes are a rule file with these rules
+abbrev pub AreRules : List ℕ → List Rule → Type 0
+AreRules bytes rules = Admits (rule_words_of bytes) rules
+
+-- the bytes are a rule file that holds no rule: white space, comments, and a tolerance factor, which has no effect
+abbrev pub IsRuleless : List ℕ → Type 0
+IsRuleless bytes = AreRules bytes []
+
+-- the bytes are a rule file that holds a rule
+pub record HasRules (bytes : List ℕ) : Type 0 where
+  pub rules : List Rule
+  pub are : AreRules bytes rules
+  pub some : rules ≢ []
+
+-- the bytes are no rule file, and this is the fault
+pub record IsRulesFault (bytes : List ℕ) (fault : RuleRefusal) : Type 0 where
+  pub named : fault ≢ NoMemoryForRules
+  pub refused : RefusesRuleWords (rule_words_of bytes) fault
+  pub none : (rules : List Rule) → ¬ AreRules bytes rules
 
 -- ---- the run of a geometry
 
@@ -170,22 +195,34 @@ pub record HoldsNoMap (files : Files) (name : List ℕ) : Type 0 where
   pub text : IsText bytes raw
   pub unaccepted : ¬ IsAcceptedRaw raw
 
--- a rule file that the program takes is held under the name
+-- a rule file without a rule is held under the name: these are the ones that `mesh` takes
+pub record HoldsRuleless (files : Files) (name : List ℕ) : Type 0 where
+  pub bytes : List ℕ
+  pub holds : Holds files name bytes
+  pub accepted : IsRuleless bytes
+
+-- a rule file with a rule is held under the name
 pub record HoldsRules (files : Files) (name : List ℕ) : Type 0 where
   pub bytes : List ℕ
   pub holds : Holds files name bytes
-  pub accepted : IsBlank bytes
+  pub ruled : HasRules bytes
 
--- bytes that are no such rule file are held under the name
-pub record RefusesRules (files : Files) (name : List ℕ) : Type 0 where
+-- bytes with this fault of a rule file are held under the name
+pub record HoldsRulesFault (files : Files) (name : List ℕ) (fault : RuleRefusal) : Type 0 where
   pub bytes : List ℕ
   pub holds : Holds files name bytes
-  pub refused : ¬ IsBlank bytes
+  pub why : IsRulesFault bytes fault
+
+-- bytes are held under the name that are no rule file
+pub record HoldsNoRuleFile (files : Files) (name : List ℕ) : Type 0 where
+  pub bytes : List ℕ
+  pub holds : Holds files name bytes
+  pub none : (rules : List Rule) → ¬ AreRules bytes rules
 
 -- both files that `mesh` takes are accepted
 pub record IsAccepted (files : Files) (names : MeshNames) (g : PlanarMap) : Type 0 where
   pub geometry : HoldsPlain files names.geometry g
-  pub rules : HoldsRules files names.rules
+  pub rules : HoldsRuleless files names.rules
 
 abbrev pub HoldsSomeMap : List ℕ → Files → Type 0
 HoldsSomeMap name files = (raw : RawGeometry) × (g : PlanarMap) × HoldsMap files name raw g

@@ -6,10 +6,10 @@ use Rattle.folder_io.specs.Names.{Files, SameBut}
 use Rattle.mesh_run.specs.declared.End.{End}
 use Rattle.geom_check.specs.Geometry.{PlanarMap}
 use Rattle.netmesh_cli.specs.declared.outcome.Refusal.{Refusal}
-use Rattle.netmesh_cli.specs.declared.outcome.Refusal.TheVariants.{In2d, Geometry, Folder, Out, Memory, NotYet}
+use Rattle.netmesh_cli.specs.declared.outcome.Refusal.TheVariants.{In2d, Geometry, Rules, Folder, Out, Memory, NotYet}
 use Rattle.netmesh_cli.specs.Words.{MeshNames}
 use Rattle.netmesh_cli.specs.Causes.{IsFolderFault, PutRefused, AnswerRefused}
-use Rattle.netmesh_cli.specs.Accepted.{IsTextFault, IsMapFault, HoldsTextFault, HoldsMapFault, HoldsSized, HoldsSomePlain, RefusesRules, IsAccepted, IsSomeAccepted, run_of, log_of, mesh_of, line_of, IsCovered}
+use Rattle.netmesh_cli.specs.Accepted.{IsTextFault, IsMapFault, HoldsTextFault, HoldsMapFault, HoldsSized, HoldsSomePlain, HoldsRules, HoldsRulesFault, IsAccepted, IsSomeAccepted, run_of, log_of, mesh_of, line_of, IsCovered}
 
 -- why bytes are refused: by their text, or by the geometry that they write
 abbrev pub BytesRefused : List ℕ → Refusal → Type 0
@@ -31,10 +31,11 @@ abbrev pub PlainRefused : Option Files → List ℕ → Type 0 → Refusal → T
 PlainRefused held name failed (NotYet part) = (part ≡ 2) × Told held (λ files. HoldsSized files name)
 PlainRefused held name failed refusal = MapRefused held name failed refusal
 
--- why a rule file that is taken is refused: by the folder, or for a word in it
+-- why a rule file that is taken is refused: by the folder, by its words, or for a rule in it
 abbrev pub RulesRefused : Option Files → List ℕ → Type 0 → Refusal → Type 0
 RulesRefused held name failed (Folder named number) = (named ≡ name) × IsFolderFault held name failed number
-RulesRefused held name failed (NotYet part) = (part ≡ 3) × Told held (λ files. RefusesRules files name)
+RulesRefused held name failed (Rules fault) = Told held (λ files. HoldsRulesFault files name fault)
+RulesRefused held name failed (NotYet part) = (part ≡ 3) × Told held (λ files. HoldsRules files name)
 RulesRefused held name failed Memory = Unit {0}
 RulesRefused held name failed _ = ⊥
 

@@ -9,10 +9,12 @@ use Rattle.in2d_reader.specs.declared.refusal.In2dRefusal.{In2dRefusal}
 use Rattle.in2d_reader.specs.declared.refusal.In2dRefusal.TheVariants.{Syntax, Number, Curved, TooMany, NumberTwice, UnknownPoint, Memory as NoMemoryThere}
 use Rattle.geom_check.specs.declared.refusal.GeomRefusal.{GeomRefusal}
 use Rattle.geom_check.specs.declared.refusal.GeomRefusal.TheVariants.{NoDomain, TooLarge, SamePlace, SameSides, NoLength, Meet, OpenAt, Side, Overlap, Memory as NoMemoryHere}
+use Rattle.rule_reader.specs.declared.fault.RuleRefusal.{RuleRefusal}
+use Rattle.rule_reader.specs.declared.fault.RuleRefusal.TheVariants as fault_of_rules
 use Rattle.netmesh_cli.specs.declared.words_fault.WordsFault.{WordsFault}
 use Rattle.netmesh_cli.specs.declared.words_fault.WordsFault.TheVariants.{NoVerb, UnknownVerb, Form, Value, SameName}
 use Rattle.netmesh_cli.specs.declared.outcome.Refusal.{Refusal}
-use Rattle.netmesh_cli.specs.declared.outcome.Refusal.TheVariants.{Words, In2d, Geometry, Folder, Out, Memory, NotYet}
+use Rattle.netmesh_cli.specs.declared.outcome.Refusal.TheVariants.{Words, In2d, Geometry, Rules, Folder, Out, Memory, NotYet}
 
 -- `refused`, the kind, and the numbers, each after one space
 abbrev pub numbers_line : List ℕ → List ℤ → List ℕ
@@ -49,11 +51,21 @@ geometry_line (Side domain at) = numbers_line (codes "geometry") (pos 8 ∷ pos 
 geometry_line (Overlap at) = numbers_line (codes "geometry") (pos 9 ∷ at.x ∷ at.y ∷ at.k ∷ [])
 geometry_line NoMemoryHere = []
 
+-- the number of the fault of a rule file, and its rule, what there is too much of, or word; want of memory has no line
+abbrev pub rules_line : RuleRefusal → List ℕ
+rules_line (fault_of_rules.Syntax word) = numbers_line (codes "rules") (pos 1 ∷ pos word ∷ [])
+rules_line (fault_of_rules.Number word) = numbers_line (codes "rules") (pos 2 ∷ pos word ∷ [])
+rules_line (fault_of_rules.TooMany rule what) = numbers_line (codes "rules") (pos 3 ∷ pos rule ∷ pos what ∷ [])
+rules_line (fault_of_rules.BadIndex rule word) = numbers_line (codes "rules") (pos 4 ∷ pos rule ∷ pos word ∷ [])
+rules_line (fault_of_rules.TooLoose rule) = numbers_line (codes "rules") (pos 5 ∷ pos rule ∷ [])
+rules_line fault_of_rules.Memory = []
+
 -- `refused`, the kind, its number and values; an answer that isn't taken and want of memory have no line
 abbrev pub refusal_line : Refusal → List ℕ
 refusal_line (Words fault) = numbers_line (codes "words") (pos (words_number fault) ∷ [])
 refusal_line (In2d fault) = in2d_line fault
 refusal_line (Geometry fault) = geometry_line fault
+refusal_line (Rules fault) = rules_line fault
 refusal_line (Folder name fault) = codes "refused folder " ++ decimal fault ++ codes " " ++ name ++ codes "\n"
 refusal_line Out = []
 refusal_line Memory = []

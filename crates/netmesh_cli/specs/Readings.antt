@@ -4,8 +4,8 @@ use Rattle.in2d_reader.specs.declared.geometry.RawGeometry.{RawGeometry}
 use Rattle.geom_check.specs.declared.refusal.GeomRefusal.TheVariants.{Memory as NoMemoryToCheck}
 use Rattle.geom_check.specs.Refused.{IsRefusal}
 use Rattle.netmesh_cli.specs.declared.outcome.Refusal.{Refusal}
-use Rattle.netmesh_cli.specs.declared.outcome.Refusal.TheVariants.{In2d, Geometry, Memory, NotYet}
-use Rattle.netmesh_cli.specs.Accepted.{IsTextFault, IsBlank}
+use Rattle.netmesh_cli.specs.declared.outcome.Refusal.TheVariants.{In2d, Geometry, Rules, Memory, NotYet}
+use Rattle.netmesh_cli.specs.Accepted.{IsTextFault, HasRules, IsRulesFault}
 
 -- the bytes are the text of no geometry
 abbrev pub ReadRefused : List ℕ → Refusal → Type 0
@@ -19,7 +19,9 @@ CheckRefused raw (Geometry fault) = (fault ≢ NoMemoryToCheck) × IsRefusal raw
 CheckRefused raw Memory = Unit {0}
 CheckRefused raw _ = ⊥
 
--- the rule file has a word
-abbrev pub BlankRefused : List ℕ → Refusal → Type 0
-BlankRefused bytes (NotYet part) = (part ≡ 3) × ¬ IsBlank bytes
-BlankRefused bytes _ = ⊥
+-- the bytes are no rule file, or one with a rule
+abbrev pub RuleFileRefused : List ℕ → Refusal → Type 0
+RuleFileRefused bytes (Rules fault) = IsRulesFault bytes fault
+RuleFileRefused bytes (NotYet part) = (part ≡ 3) × HasRules bytes
+RuleFileRefused bytes Memory = Unit {0}
+RuleFileRefused bytes _ = ⊥

@@ -4,10 +4,10 @@ use Rattle.folder_io.specs.Causes.{Told}
 use Rattle.folder_io.specs.Names.{Files, held_at, SameBut}
 use Rattle.geom_check.specs.Geometry.{PlanarMap}
 use Rattle.netmesh_cli.specs.declared.outcome.Refusal.{Refusal}
-use Rattle.netmesh_cli.specs.declared.outcome.Refusal.TheVariants.{Words, In2d, Geometry, Folder, Out, Memory, NotYet}
+use Rattle.netmesh_cli.specs.declared.outcome.Refusal.TheVariants.{Words, In2d, Geometry, Rules, Folder, Out, Memory, NotYet}
 use Rattle.netmesh_cli.specs.Words.{MeshNames}
 use Rattle.netmesh_cli.specs.Causes.{IsFolderFault}
-use Rattle.netmesh_cli.specs.Accepted.{IsAccepted, HoldsTextFault, HoldsMapFault, HoldsSized, HoldsSomePlain, RefusesRules, IsSomeAccepted, log_of}
+use Rattle.netmesh_cli.specs.Accepted.{IsAccepted, HoldsTextFault, HoldsMapFault, HoldsSized, HoldsSomePlain, HoldsRules, HoldsRulesFault, IsSomeAccepted, log_of}
 use Rattle.netmesh_cli.specs.Course.{HasBoth}
 
 -- the file at which the folder refused: one that is taken, where those before it are accepted, or one that is put, where all that are taken are
@@ -17,16 +17,17 @@ pub data FolderCause (names : MeshNames) (held : Option Files) (failed : List �
   of_log : name ≡ names.log → Told held (IsSomeAccepted names) → number ≡ 1 → failed name → FolderCause names held failed name number
   of_mesh : name ≡ names.mesh → Told held (IsSomeAccepted names) → number ≡ 1 → failed name → FolderCause names held failed name number
 
--- a form that is not built yet: the geometry held is accepted and gives a size, or, where it gives none, the rule file held has more than white space
+-- a form that is not built yet: the geometry held is accepted and gives a size, or, where it gives none, the rule file held has a rule
 pub data NotYetCause (names : MeshNames) (held : Option Files) (part : ℕ) : Type 0 where
   of_a_size : part ≡ 2 → Told held (λ files. HoldsSized files names.geometry) → NotYetCause names held part
-  of_the_rules : part ≡ 3 → Told held (HoldsSomePlain names.geometry) → Told held (λ files. RefusesRules files names.rules) → NotYetCause names held part
+  of_the_rules : part ≡ 3 → Told held (HoldsSomePlain names.geometry) → Told held (λ files. HoldsRules files names.rules) → NotYetCause names held part
 
 -- the cause of each refusal
 abbrev pub RefusalCause : MeshNames → Option Files → (List ℕ → Type 0) → Type 0 → Refusal → Type 0
 RefusalCause names held failed untaken (Words fault) = ⊥
 RefusalCause names held failed untaken (In2d fault) = Told held (λ files. HoldsTextFault files names.geometry fault)
 RefusalCause names held failed untaken (Geometry fault) = Told held (λ files. HoldsMapFault files names.geometry fault)
+RefusalCause names held failed untaken (Rules fault) = Told held (HoldsSomePlain names.geometry) × Told held (λ files. HoldsRulesFault files names.rules fault)
 RefusalCause names held failed untaken (NotYet part) = NotYetCause names held part
 RefusalCause names held failed untaken (Folder name number) = FolderCause names held failed name number
 RefusalCause names held failed untaken Out = Told held (IsSomeAccepted names) × untaken

@@ -2,17 +2,18 @@
 use Rattle.std.specs.Prelude.{◌≡◌, ℕ, List, Option, ◌⊎◌, ◌++◌}
 use Rattle.folder_io.specs.Causes.{Told, ToldBoth, GrowsByPrefix}
 use Rattle.folder_io.specs.Names.{Files}
+use Rattle.geom_check.specs.declared.refusal.GeomRefusal.{GeomRefusal}
 use Rattle.mesh_run.specs.declared.End.{End}
 use Rattle.mesh_run.specs.declared.End.TheVariants.{Done as DoneEnd, Stuck as StuckEnd, Stopped as StoppedEnd}
 use Rattle.netmesh_cli.specs.declared.outcome.Outcome.{Outcome}
 use Rattle.netmesh_cli.specs.declared.outcome.Outcome.TheVariants.{Done, Stuck, Stopped, Shown, Refused}
 use Rattle.netmesh_cli.specs.declared.outcome.Refusal.{Refusal}
-use Rattle.netmesh_cli.specs.declared.outcome.Refusal.TheVariants.{Words, In2d, Geometry, Folder, Out, Memory, NotYet}
+use Rattle.netmesh_cli.specs.declared.outcome.Refusal.TheVariants.{Words, In2d, Geometry, Rules, Folder, Out, Memory, NotYet}
 use Rattle.netmesh_cli.specs.declared.words_fault.WordsFault.{WordsFault}
 use Rattle.netmesh_cli.specs.Commands.{IsFault}
 use Rattle.netmesh_cli.specs.Words.{MeshNames, AskForUnbuilt}
 use Rattle.netmesh_cli.specs.Causes.{IsMemory}
-use Rattle.netmesh_cli.specs.Accepted.{HoldsNoText, HoldsNoMap, HoldsSized, HoldsSomeMap, HoldsSomePlain, RefusesRules, IsSomeAccepted}
+use Rattle.netmesh_cli.specs.Accepted.{HoldsMapFault, HoldsNoText, HoldsNoMap, HoldsSized, HoldsSomeMap, HoldsSomePlain, HoldsRules, HoldsNoRuleFile, IsSomeAccepted}
 use Rattle.netmesh_cli.specs.Course.{IsMeshed, IsSummary}
 use Rattle.netmesh_cli.specs.Drawn.{IsDrawn, IsDrawing, DrawingCause}
 use Rattle.netmesh_cli.specs.Stands.{RefusalCause, RefusalStands, Keeps}
@@ -101,6 +102,15 @@ abbrev pub IsGeometryOrFolder : Refusal → Type 0
 IsGeometryOrFolder (Geometry fault) = Unit {0}
 IsGeometryOrFolder refusal = IsFolderOrMemory refusal
 
+-- the refusal is this one, unless the folder failed or memory was refused
+abbrev pub IsThisOrFolder : Refusal → Refusal → Type 0
+IsThisOrFolder given refusal = (refusal ≡ given) ⊎ IsFolderOrMemory refusal
+
+-- the refusal is of a rule file, unless the folder failed or memory was refused
+abbrev pub IsRulesOrFolder : Refusal → Type 0
+IsRulesOrFolder (Rules fault) = Unit {0}
+IsRulesOrFolder refusal = IsFolderOrMemory refusal
+
 -- ---- what is written of a refusal
 
 -- what is written by a call that was refused: the refusal's line, of which a sink that failed may have taken a prefix, and nothing where memory was refused
@@ -155,8 +165,10 @@ pub record MeshAnswer (names : MeshNames) (outcome : Outcome) (held_before held_
 pub record MeshExactly (names : MeshNames) (outcome : Outcome) (files : Files) (failed : Type 0) (untaken : Type 0) : Type 0 where
   pub text_refused : HoldsNoText files names.geometry → IsRefusedAnd outcome IsIn2dOrFolder
   pub map_refused : HoldsNoMap files names.geometry → IsRefusedAnd outcome IsGeometryOrFolder
+  pub map_fault : (fault : GeomRefusal) → HoldsMapFault files names.geometry fault → IsRefusedAnd outcome (IsThisOrFolder (Geometry fault))
   pub size_refused : HoldsSized files names.geometry → IsRefusedAnd outcome (IsNotYetOrFolder 2)
-  pub rules_refused : HoldsSomePlain names.geometry files → RefusesRules files names.rules → IsRefusedAnd outcome (IsNotYetOrFolder 3)
+  pub rules_refused : HoldsSomePlain names.geometry files → HoldsNoRuleFile files names.rules → IsRefusedAnd outcome IsRulesOrFolder
+  pub rules_not_built : HoldsSomePlain names.geometry files → HoldsRules files names.rules → IsRefusedAnd outcome (IsNotYetOrFolder 3)
   -- accepted files, and no failure of the folder or the sink
   pub complete : IsSomeAccepted names files → ¬ failed → ¬ untaken → IsEndOr IsMemory outcome
 
@@ -176,4 +188,5 @@ pub record GeomAnswer (name : List ℕ) (outcome : Outcome) (held_before held_af
 pub record GeomExactly (name : List ℕ) (outcome : Outcome) (files : Files) (failed : Type 0) (untaken : Type 0) : Type 0 where
   pub text_refused : HoldsNoText files name → IsRefusedAnd outcome IsIn2dOrFolder
   pub map_refused : HoldsNoMap files name → IsRefusedAnd outcome IsGeometryOrFolder
+  pub map_fault : (fault : GeomRefusal) → HoldsMapFault files name fault → IsRefusedAnd outcome (IsThisOrFolder (Geometry fault))
   pub complete : HoldsSomeMap name files → ¬ failed → ¬ untaken → IsShownOr IsMemory outcome

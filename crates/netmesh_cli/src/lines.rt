@@ -2,11 +2,12 @@
 
 ghost use Rattle.std.specs.Prelude.{◌≡◌, ◌++◌, ◌∷◌, [], pos, IfOk, OnOk, string_bytes, codes};
 ghost use Rattle.std.specs.Fmt.{decimal};
-ghost use Rattle.netmesh_cli.specs.Lines.{numbers_line, words_number, in2d_line, geometry_line, refusal_line};
+ghost use Rattle.netmesh_cli.specs.Lines.{numbers_line, words_number, in2d_line, geometry_line, rules_line, refusal_line};
 
 use super::{Refusal, WordsFault};
 use geom_check::GeomRefusal;
 use in2d_reader::In2dRefusal;
+use rule_reader::RuleRefusal;
 use std::alloc::{AllocError, Global};
 use std::fmt::Write;
 use text_rows::write_spaced_wide;
@@ -117,6 +118,25 @@ fn geometry_line(alloc: Global, fault: &GeomRefusal) -> Result<Vec<u8>, AllocErr
     }
 }
 
+/// The line of a rule file that is at fault.
+fn rules_line(alloc: Global, fault: &RuleRefusal) -> Result<Vec<u8>, AllocError>
+    ensures { IfOk result (λ line. line.items ≡ rules_line fault.now) }
+{
+    let kind = "rules";
+    match fault {
+        RuleRefusal::Syntax { word } => numbers_line(alloc, kind, &[1, *word as i128]),
+        RuleRefusal::Number { word } => numbers_line(alloc, kind, &[2, *word as i128]),
+        RuleRefusal::TooMany { rule, what } => {
+            numbers_line(alloc, kind, &[3, *rule as i128, *what as i128])
+        }
+        RuleRefusal::BadIndex { rule, word } => {
+            numbers_line(alloc, kind, &[4, *rule as i128, *word as i128])
+        }
+        RuleRefusal::TooLoose { rule } => numbers_line(alloc, kind, &[5, *rule as i128]),
+        RuleRefusal::Memory => Ok(Vec::new(alloc)),
+    }
+}
+
 /// The line of a refusal: `refused`, its kind, its number and its values.
 pub fn line_of(alloc: Global, refusal: &Refusal) -> Result<Vec<u8>, AllocError>
     ensures { IfOk result (λ line. line.items ≡ refusal_line refusal.now) }
@@ -125,6 +145,7 @@ pub fn line_of(alloc: Global, refusal: &Refusal) -> Result<Vec<u8>, AllocError>
         Refusal::Words(fault) => words_line(alloc, *fault),
         Refusal::In2d(fault) => in2d_line(alloc, fault),
         Refusal::Geometry(fault) => geometry_line(alloc, fault),
+        Refusal::Rules(fault) => rules_line(alloc, fault),
         Refusal::Folder { name, fault } => folder_line(alloc, name.as_slice(), *fault),
         Refusal::Out | Refusal::Memory => Ok(Vec::new(alloc)),
         Refusal::NotYet { part } => not_yet_line(alloc, *part),

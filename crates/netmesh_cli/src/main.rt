@@ -1,7 +1,7 @@
 //! Which files and which answer come of the files that the words name, and if none, why?
 //!
 //! So far each accepted geometry is written by `geom`, and each that gives no size is meshed by `mesh`,
-//! by a rule file without rules.
+//! by a rule file without a rule.
 //!
 //! 1. The words name the files. Each file is taken and read before the next is taken.
 //! 2. The log is put before the mesh, and the answer is written last.
@@ -23,6 +23,7 @@ mod lines;
 mod mesh;
 mod outcome;
 mod reader;
+mod rule_file;
 mod settings;
 mod top;
 mod values;

@@ -1,13 +1,14 @@
 //! The verb `mesh`: takes the geometry and the rules, puts the log and then the mesh, and writes the summary line.
 
-ghost use Rattle.std.specs.Prelude.{◌≡◌, ◌≤◌, IfOk, IfErr, OnOk};
+ghost use Rattle.std.specs.Prelude.{◌≡◌, ◌≤◌, IfOk, IfErr};
 ghost use Rattle.folder_io.specs.Causes.{Rose, Told, ToldBoth};
 ghost use Rattle.netmesh_cli.specs.Words.{names_of};
-ghost use Rattle.netmesh_cli.specs.Accepted.{HoldsPlain, HoldsRules};
-ghost use Rattle.netmesh_cli.specs.Course.{PlainRefused, RulesRefused, Course, IsMeshed, IsSummary, WrittenBefore};
+ghost use Rattle.netmesh_cli.specs.Accepted.{HoldsPlain};
+ghost use Rattle.netmesh_cli.specs.Course.{PlainRefused, Course, IsMeshed, IsSummary, WrittenBefore};
 
 use super::command::MeshFiles;
 use super::geometry::{keeps_size, take_geometry};
+use super::rule_file::take_rules;
 use super::{Refusal, files, work};
 use folder_io::{Folder, Sink};
 use geom_check::Geometry;
@@ -29,17 +30,6 @@ fn take_plain<F: Folder>(alloc: Global, folder: &mut F, name: &str) -> Result<Ge
         return Err(Refusal::NotYet { part: SIZES_PART });
     }
     Ok(drawing.map)
-}
-
-/// Takes the rule file and reads it.
-fn take_rules<F: Folder>(alloc: Global, folder: &mut F, name: &str) -> Result<(), Refusal>
-    ensures held { F.held folder.new ≡ F.held folder.old }
-    ensures accepted { OnOk result (Told (F.held folder.old) (λ files. HoldsRules files name.now)) }
-    ensures refused { IfErr result (RulesRefused (F.held folder.old) name.now (Rose (F.faults folder.old) (F.faults folder.new) × (F.last folder.new ≡ name.now))) }
-    ensures rises { F.faults folder.old ≤ F.faults folder.new }
-{
-    let bytes = files::take(alloc, folder, name)?;
-    work::read_rules(&bytes)
 }
 
 /// Meshes a geometry, and says how its run ended.

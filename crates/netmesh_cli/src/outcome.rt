@@ -7,6 +7,7 @@ ghost use Rattle.netmesh_cli.specs.Status.{status_of, refusal_status};
 use super::WordsFault;
 use geom_check::GeomRefusal;
 use in2d_reader::In2dRefusal;
+use rule_reader::RuleRefusal;
 use std::alloc::AllocError;
 use word_scan::Name;
 
@@ -38,6 +39,8 @@ pub enum Refusal {
     In2d(In2dRefusal),
     /// The geometry is not accepted.
     Geometry(GeomRefusal),
+    /// The rule file is at fault.
+    Rules(RuleRefusal),
     /// The folder refused the file of this name: 1 a call failed, 2 the file is longer than its
     /// limit, 3 there is no such file.
     Folder { name: Name, fault: u32 },
@@ -65,6 +68,7 @@ impl Refusal {
         match self {
             Refusal::Words(_) => 2,
             Refusal::In2d(_) | Refusal::Geometry(_) => 3,
+            Refusal::Rules(_) => 4,
             Refusal::Folder { .. } => 5,
             Refusal::Out => 6,
             Refusal::Memory => 7,
@@ -75,8 +79,8 @@ impl Refusal {
 
 impl Outcome {
     /// The status that the program ends with: 0 where the work is done, 1 stuck, 2 words at fault,
-    /// 3 a geometry that isn't accepted, 5 a folder's refusal, 6 the answer not taken, 7 no memory, 8 stopped, 9 a bad verdict, 12 a form that is
-    /// not built yet.
+    /// 3 a geometry that isn't accepted, 4 a rule file at fault, 5 a folder's refusal, 6 the answer not
+    /// taken, 7 no memory, 8 stopped, 9 a bad verdict, 12 a form that is not built yet.
     pub fn status(&self) -> u8
         ensures { result ≡ status_of self.now }
     {

@@ -135,7 +135,7 @@ fn refusals_write_their_line(rt: HostRuntime) -> Result<(), Fail> {
     let clockwise =
         "splinecurves2dv2 1 points 1 0 0 2 0 1 3 1 0 segments 1 0 2 1 2 1 0 2 2 3 1 0 2 3 1";
     let cases = [
-        (TRIANGLE, "rule", 12, "refused notyet 3\n"),
+        (TRIANGLE, "rule", 4, "refused rules 1 2\n"),
         (
             clockwise,
             "rule",
@@ -153,6 +153,93 @@ fn refusals_write_their_line(rt: HostRuntime) -> Result<(), Fail> {
     let (failed, out) = answer(&rt, rt.alloc(), TRIANGLE, "", &[3])?;
     assert_eq!(rt; failed, 5);
     assert_eq!(rt; out.written(), b"refused folder 1 l\n".as_slice());
+    Ok(())
+}
+
+/// A rule with seven mapped points, of which four are on no line.
+const TOO_LOOSE: &str =
+    "rule \"Half\"\nquality 1\nmappoints\n(0, 0) { 1, 0, 1 };\n(1, 0) { 1, 0, 1 };\n(0.5, 0.866) { 1, 0, 1 };\n(2, 2); (2, 2); (2, 2); (2, 2);\nmaplines\n(1, 2) { 1, 0, 1 } del;\n(3, 1) { 1, 0, 1 } del;\nfreearea\n(0, 0) { } { };\n(1, 0) { 1 X2 } { };\n(0.5, 0.866) { 1 X3 } { 1 Y3 };\nelements\n(1, 2, 3);\nendrule\n";
+
+const ONE_LINE: &str = "rule \"A\" mappoints (0,0);(1,0); maplines (1,2); endrule ";
+
+/// A text so many times, between two others.
+fn repeated(
+    alloc: Global,
+    before: &str,
+    piece: &str,
+    count: u32,
+    after: &str,
+) -> Result<String, AllocError> {
+    let mut whole = text(alloc, before)?;
+    for _ in 0..count {
+        whole.push_str(piece)?;
+    }
+    whole.push_str(after)?;
+    Ok(whole)
+}
+
+#[test]
+fn a_rule_file_without_a_rule_is_as_an_empty_one(rt: HostRuntime) -> Result<(), Fail> {
+    let alloc = rt.alloc();
+    for rules in [
+        "tolfak 0.5",
+        "# a comment\n#another\n",
+        " tolfak 16 # and no rule",
+    ] {
+        let mut held = folder(alloc, TRIANGLE, rules, &[])?;
+        let mut out = SinkMem::new(alloc, &[])?;
+        let outcome = netmesh(
+            &rt,
+            alloc,
+            &mesh_words(alloc)?,
+            &mut held,
+            &mut out,
+            &NoGate,
+        );
+        assert_eq!(rt; outcome.status(), 1);
+        assert_eq!(rt; held.get("l"), Some(LOG.as_bytes()));
+        assert_eq!(rt; held.get("m"), Some(MESH.as_bytes()));
+        assert_eq!(rt; out.written(), LINE.as_bytes());
+    }
+    Ok(())
+}
+
+#[test]
+fn a_rule_file_at_fault_writes_its_line_and_a_good_rule_is_not_built(
+    rt: HostRuntime,
+) -> Result<(), Fail> {
+    let alloc = rt.alloc();
+    let points = repeated(alloc, "rule \"A\" mappoints ", "(0, 0); ", 17, "endrule")?;
+    let many = repeated(alloc, "", ONE_LINE, 257, "")?;
+    let cases = [
+        (
+            "rule \"A\" elements (1, 2, 3, 1); endrule",
+            4,
+            "refused rules 1 10\n",
+        ),
+        ("rule \"A\" quality -1 endrule", 4, "refused rules 2 4\n"),
+        ("rule \"A\" endrule", 4, "refused rules 4 1 3\n"),
+        (points.as_str(), 4, "refused rules 3 1 2\n"),
+        (many.as_str(), 4, "refused rules 3 257 1\n"),
+        (TOO_LOOSE, 4, "refused rules 5 1\n"),
+        (ONE_LINE, 12, "refused notyet 3\n"),
+    ];
+    for (rules, status, line) in cases {
+        let mut held = folder(alloc, TRIANGLE, rules, &[])?;
+        let mut out = SinkMem::new(alloc, &[])?;
+        let outcome = netmesh(
+            &rt,
+            alloc,
+            &mesh_words(alloc)?,
+            &mut held,
+            &mut out,
+            &NoGate,
+        );
+        assert_eq!(rt; outcome.status(), status);
+        assert_eq!(rt; out.written(), line.as_bytes());
+        assert_eq!(rt; held.get("l"), None);
+        assert_eq!(rt; held.get("m"), None);
+    }
     Ok(())
 }
 

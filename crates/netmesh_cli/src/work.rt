@@ -1,9 +1,8 @@
 //! From what is taken to the bytes that are put.
 
-ghost use Rattle.std.specs.Prelude.{◌≡◌, IfOk, IfErr, OnOk};
+ghost use Rattle.std.specs.Prelude.{◌≡◌, IfOk, IfErr};
 ghost use Rattle.netmesh_cli.specs.Causes.{IsMemory};
-ghost use Rattle.netmesh_cli.specs.Readings.{BlankRefused};
-ghost use Rattle.netmesh_cli.specs.Accepted.{IsBlank, IsCovered, run_of, log_of, mesh_of as mesh_text_of, line_of};
+ghost use Rattle.netmesh_cli.specs.Accepted.{IsCovered, run_of, log_of, mesh_of as mesh_text_of, line_of};
 
 use super::Refusal;
 use geom_check::Geometry;
@@ -12,9 +11,6 @@ use mesh_run::{End, Options, mesh_of, open_all, uncut};
 use run_log::{write_log, write_summary};
 use std::alloc::Global;
 use vol_format::write_vol;
-
-/// The part that rules are, which are not built yet.
-const RULES_PART: u32 = 3;
 
 /// The options of a call without any: the greatest size there is, a grading of 0.3, classes up to 10
 /// and no limit on applications.
@@ -32,21 +28,6 @@ pub struct Texts {
     pub mesh: Vec<u8>,
     pub line: Vec<u8>,
     pub end: End,
-}
-
-/// Whether the rule file has no word.
-pub fn read_rules(bytes: &[u8]) -> Result<(), Refusal>
-    ensures accepted { OnOk result (IsBlank bytes.now) }
-    ensures refused { IfErr result (BlankRefused bytes.now) }
-{
-    if bytes
-        .iter()
-        .all(|byte| matches!(*byte, b' ' | b'\t' | b'\r' | b'\n'))
-    {
-        Ok(())
-    } else {
-        Err(Refusal::NotYet { part: RULES_PART })
-    }
 }
 
 /// The texts of the run of a geometry by no rule.
