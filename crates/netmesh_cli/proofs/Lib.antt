@@ -17,3 +17,4 @@ pub mod Calling
 pub mod Exclusion
 pub mod Askings
 pub mod Ends
+pub mod Comments

@@ -1,10 +1,14 @@
 //! Laws of the geometry of a file, each as the contract of a function that does nothing.
 
 ghost use Rattle.std.specs.Prelude.{◌≡◌, ℕ, List};
+ghost use Rattle.word_scan.specs.Scan.{words_of};
 ghost use Rattle.in2d_reader.specs.declared.geometry.RawGeometry.{RawGeometry};
+ghost use Rattle.in2d_reader.specs.Grammar.{Derives};
+ghost use Rattle.in2d_reader.specs.Normal.{CanPrint};
 ghost use Rattle.geom_check.specs.Geometry.{PlanarMap, IsGeometryOf};
 ghost use Rattle.mesh_run.specs.declared.End.TheVariants.{Stuck};
 ghost use Rattle.netmesh_cli.specs.Accepted.{IsMapText, run_of};
+ghost use Rattle.netmesh_cli.specs.Drawn.{drawn_text};
 
 /// A text writes one geometry, which lies on the grid in one way: what is put and written of it follows from its bytes.
 pub fn one_map()
@@ -14,4 +18,9 @@ pub fn one_map()
 /// The run of an accepted geometry by no rule is stuck: some segment names a domain, whose front stays its boundary.
 pub fn accepted_is_stuck()
     ensures { (raw : RawGeometry) (g : PlanarMap) → IsGeometryOf raw g → (run_of g).end ≡ Stuck }
+{}
+
+/// What `geom` writes of a geometry is read again as the same geometry.
+pub fn drawn_again()
+    ensures { (raw : RawGeometry) (g : PlanarMap) → CanPrint raw → Derives (words_of (drawn_text raw g)) raw }
 {}

@@ -178,68 +178,87 @@ fn repeated(
     Ok(whole)
 }
 
+/// Whether a call on the triangle and these rules ends with this status, writes this line, and puts these files.
+fn is_answered<R: Threads + Sync>(
+    rt: &R,
+    alloc: Global,
+    rules: &str,
+    status: u8,
+    line: &str,
+    files: (Option<&str>, Option<&str>),
+) -> Result<bool, AllocError> {
+    let mut held = folder(alloc, TRIANGLE, rules, &[])?;
+    let mut out = SinkMem::new(alloc, &[])?;
+    let outcome = netmesh(rt, alloc, &mesh_words(alloc)?, &mut held, &mut out, &NoGate);
+    let (log, mesh) = files;
+    Ok(
+        outcome.status() == status
+            && out.written() == line.as_bytes()
+            && held.get("l") == log.map(|text| text.as_bytes())
+            && held.get("m") == mesh.map(|text| text.as_bytes()),
+    )
+}
+
+/// Whether the rules are taken for an empty rule file.
+fn is_ruleless<R: Threads + Sync>(rt: &R, alloc: Global, rules: &str) -> Result<bool, AllocError> {
+    is_answered(rt, alloc, rules, 1, LINE, (Some(LOG), Some(MESH)))
+}
+
+/// Whether the rules are refused by this status and line, and nothing is put.
+fn is_refused<R: Threads + Sync>(
+    rt: &R,
+    alloc: Global,
+    rules: &str,
+    status: u8,
+    line: &str,
+) -> Result<bool, AllocError> {
+    is_answered(rt, alloc, rules, status, line, (None, None))
+}
+
 #[test]
 fn a_rule_file_without_a_rule_is_as_an_empty_one(rt: HostRuntime) -> Result<(), Fail> {
-    let alloc = rt.alloc();
-    for rules in [
-        "tolfak 0.5",
-        "# a comment\n#another\n",
-        " tolfak 16 # and no rule",
-    ] {
-        let mut held = folder(alloc, TRIANGLE, rules, &[])?;
-        let mut out = SinkMem::new(alloc, &[])?;
-        let outcome = netmesh(
-            &rt,
-            alloc,
-            &mesh_words(alloc)?,
-            &mut held,
-            &mut out,
-            &NoGate,
-        );
-        assert_eq!(rt; outcome.status(), 1);
-        assert_eq!(rt; held.get("l"), Some(LOG.as_bytes()));
-        assert_eq!(rt; held.get("m"), Some(MESH.as_bytes()));
-        assert_eq!(rt; out.written(), LINE.as_bytes());
-    }
+    assert!(rt; is_ruleless(&rt, rt.alloc(), "tolfak 0.5")?);
+    assert!(rt; is_ruleless(&rt, rt.alloc(), "# a comment\n#another\n")?);
+    assert!(rt; is_ruleless(&rt, rt.alloc(), " tolfak 16 # and no rule")?);
     Ok(())
 }
 
 #[test]
-fn a_rule_file_at_fault_writes_its_line_and_a_good_rule_is_not_built(
+fn a_rule_file_with_a_word_that_does_not_fit_is_refused_there(rt: HostRuntime) -> Result<(), Fail> {
+    let four = "rule \"A\" elements (1, 2, 3, 1); endrule";
+    assert!(rt; is_refused(&rt, rt.alloc(), four, 4, "refused rules 1 10\n")?);
+    assert!(rt;
+        is_refused(
+            &rt,
+            rt.alloc(),
+            "rule \"A\" quality -1 endrule",
+            4,
+            "refused rules 2 4\n"
+        )?
+    );
+    assert!(rt;
+        is_refused(
+            &rt,
+            rt.alloc(),
+            "rule \"A\" endrule",
+            4,
+            "refused rules 4 1 3\n"
+        )?
+    );
+    assert!(rt; is_refused(&rt, rt.alloc(), TOO_LOOSE, 4, "refused rules 5 1\n")?);
+    Ok(())
+}
+
+#[test]
+fn a_rule_file_past_a_limit_is_refused_and_a_good_rule_is_not_built(
     rt: HostRuntime,
 ) -> Result<(), Fail> {
     let alloc = rt.alloc();
     let points = repeated(alloc, "rule \"A\" mappoints ", "(0, 0); ", 17, "endrule")?;
     let many = repeated(alloc, "", ONE_LINE, 257, "")?;
-    let cases = [
-        (
-            "rule \"A\" elements (1, 2, 3, 1); endrule",
-            4,
-            "refused rules 1 10\n",
-        ),
-        ("rule \"A\" quality -1 endrule", 4, "refused rules 2 4\n"),
-        ("rule \"A\" endrule", 4, "refused rules 4 1 3\n"),
-        (points.as_str(), 4, "refused rules 3 1 2\n"),
-        (many.as_str(), 4, "refused rules 3 257 1\n"),
-        (TOO_LOOSE, 4, "refused rules 5 1\n"),
-        (ONE_LINE, 12, "refused notyet 3\n"),
-    ];
-    for (rules, status, line) in cases {
-        let mut held = folder(alloc, TRIANGLE, rules, &[])?;
-        let mut out = SinkMem::new(alloc, &[])?;
-        let outcome = netmesh(
-            &rt,
-            alloc,
-            &mesh_words(alloc)?,
-            &mut held,
-            &mut out,
-            &NoGate,
-        );
-        assert_eq!(rt; outcome.status(), status);
-        assert_eq!(rt; out.written(), line.as_bytes());
-        assert_eq!(rt; held.get("l"), None);
-        assert_eq!(rt; held.get("m"), None);
-    }
+    assert!(rt; is_refused(&rt, alloc, points.as_str(), 4, "refused rules 3 1 2\n")?);
+    assert!(rt; is_refused(&rt, alloc, many.as_str(), 4, "refused rules 3 257 1\n")?);
+    assert!(rt; is_refused(&rt, alloc, ONE_LINE, 12, "refused notyet 3\n")?);
     Ok(())
 }
 
