@@ -36,3 +36,14 @@ bounded_at field tree q n kept is = rw (is, kept.alike q) (record {
   where
     most : size_at field q ≤ field.greatest
     most = least_most field.grading q field.greatest field.sources
+
+-- and so of any lesser length
+pub alike_below : (field : SizeField) (tree : List Source) (q : Point) (n length : ℕ) → AreKept field tree → length ≤ field.greatest → n ≡ least_size field.grading q length tree → n ≡ least_size field.grading q length field.sources
+alike_below field tree q n length kept below is =
+    let same : length ≡ min field.greatest length = omega (arith, below) in
+    is
+    ∙ ap (λ (m : ℕ). least_size field.grading q m tree) same
+    ∙ least_min field.grading q length field.greatest tree
+    ∙ ap (λ (m : ℕ). min m length) (kept.alike q)
+    ∙ sym (least_min field.grading q length field.greatest field.sources)
+    ∙ ap (λ (m : ℕ). least_size field.grading q m field.sources) (sym same)

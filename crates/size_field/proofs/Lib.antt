@@ -7,3 +7,5 @@ pub mod Kept
 -- Trees: what is known of a branch.
 pub mod Branches
 pub mod Taking
+-- Pieces: cuts in the middle.
+pub mod Cuts

@@ -6,12 +6,14 @@
 #![tactic(auto)]
 
 mod boxes;
+mod cutting;
 pub mod laws;
 mod pieces;
 mod query;
 mod sizes;
 mod tree;
 
+pub use cutting::MOST_HALVINGS;
 pub use pieces::{Piece, Pieces};
 pub use sizes::Sizes;
 pub use std::alloc::AllocError as OutOfMemory;

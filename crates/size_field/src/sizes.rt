@@ -80,6 +80,20 @@ impl Sizes {
         };
         self.tree.least(&query, Way::to(&at), self.greatest)
     }
+
+    /// The least of a length, which is at most the greatest size, and of what the sources leave at a
+    /// point. Takes no memory.
+    pub(crate) fn below(&self, at: &Point, length: u64) -> u64
+        requires at { IsOnGrid at.now }
+        requires length { length ≤ self.now.greatest }
+        ensures { result ≡ least_size self.now.grading at.now length self.now.sources }
+    {
+        let query = Query {
+            at: *at,
+            grading: self.grading,
+        };
+        self.tree.least(&query, Way::to(at), length)
+    }
 }
 
 /// Adds a source to a tree, unless its size is the greatest or above.
