@@ -1,5 +1,5 @@
--- The numbers of domains rise, and are those above 0 that segments name.
-use Rattle.std.proofs.Common.{◌≡◌, ℕ, ◌<◌, Bool, true, false, not, ◌&&◌, ◌||◌, List, [], ◌∷◌, fold, refl, ap, sym, ◌∙◌, arith, nat_eq, true≢false, if◌then◌else◌}
+-- The numbers of domains rise, are those above 0 that segments name, and are at most 64.
+use Rattle.std.proofs.Common.{◌≡◌, ℕ, ◌<◌, ◌≤◌, Bool, true, false, not, ◌&&◌, ◌||◌, List, [], ◌∷◌, fold, refl, ap, sym, ◌∙◌, arith, inl, inr, ◌⊎◌, nat_eq, true≢false, if◌then◌else◌}
 use Rattle.std.specs.List.{All, list_any}
 use Rattle.std.specs.Ordering.{nat_cmp, match_ordering, MatchOrdering}
 use Rattle.std.specs.declared.cmp.Ordering.{Ordering}
@@ -8,8 +8,10 @@ use Rattle.std.specs.BTreeSet.{insert_key}
 use Rattle.std.proofs.lemmas.Bool.Decides.{Decides-eqb, nat_tests}
 use Rattle.std.proofs.lemmas.List.Elements.{All-nil, All-cons, All-head, All-tail}
 use Rattle.std.proofs.lemmas.Map.Views.{All-insert_key}
-use Rattle.mesh_run.specs.Whole.{with_domain, domain_numbers, sides_of, IsRising}
 use Rattle.geom_check.specs.declared.kinds.Segment.{Segment}
+use Rattle.geom_check.specs.Boundary.{IsSegmentOf}
+use Rattle.geom_check.specs.Domains.{with_domain, domain_numbers, sides_of, IsRising, IsDomain}
+use Rattle.geom_check.specs.declared.boundaries.TheConstants.{MOST_DOMAINS}
 
 compares : (a b : ℕ) → MatchOrdering (nat_cmp a b) (a < b) (a ≡ b) (b < a)
 compares a b = grind (arith, nat_tests)
@@ -96,3 +98,27 @@ all_named d ds (n ∷ ns) = by (nat_eq n 0) refl (all_named d (with_domain ds n)
 
 pub numbers_named : (segments : List Segment) (d : ℕ) → list_any (nat_eq d) (domain_numbers segments) ≡ (not (nat_eq d 0) && list_any (nat_eq d) (sides_of segments))
 numbers_named segments d = all_named d [] (sides_of segments)
+
+-- ---- their range
+with_within : (b : Bool) (ds : List ℕ) (n : ℕ) → nat_eq n 0 ≡ b → n ≤ MOST_DOMAINS → All IsDomain ds → All IsDomain (if b then ds else insert_key nat_cmp ds n)
+with_within true ds n e h all = all
+with_within false ds n e h all = All-insert_key nat_cmp n IsDomain ds all (above (nat_eq n 0) e refl, h)
+  where
+    above : (b : Bool) → b ≡ false → nat_eq n 0 ≡ b → 0 < n
+    above b f g = let i = Decides-eqb n 0 in elim (either n) [ inl z ↦ absurd (true≢false (sym (i.1 z) ∙ g ∙ f)) | inr m ↦ m ]
+      where
+        either : (n : ℕ) → (n ≡ 0) ⊎ (0 < n)
+        either n = grind arith
+
+all_within : (ds ns : List ℕ) → All IsDomain ds → All (λ n. n ≤ MOST_DOMAINS) ns → All IsDomain (fold with_domain ds ns)
+all_within ds [] h all = h
+all_within ds (n ∷ ns) h all = all_within (with_domain ds n) ns (with_within (nat_eq n 0) ds n refl (All-head (λ m. m ≤ MOST_DOMAINS) n ns all) h) (All-tail (λ m. m ≤ MOST_DOMAINS) n ns all)
+
+sides_within : (count : ℕ) (segments : List Segment) → All (IsSegmentOf count) segments → All (λ n. n ≤ MOST_DOMAINS) (sides_of segments)
+sides_within count [] h = All-nil (λ n. n ≤ MOST_DOMAINS)
+sides_within count (s ∷ ss) h =
+    let here = All-head (IsSegmentOf count) s ss h in
+    All-cons (λ n. n ≤ MOST_DOMAINS) s.left (s.right ∷ sides_of ss) here.left (All-cons (λ n. n ≤ MOST_DOMAINS) s.right (sides_of ss) here.right (sides_within count ss (All-tail (IsSegmentOf count) s ss h)))
+
+pub numbers_within : (count : ℕ) (segments : List Segment) → All (IsSegmentOf count) segments → All IsDomain (domain_numbers segments)
+numbers_within count segments h = all_within [] (sides_of segments) (All-nil IsDomain) (sides_within count segments h)
