@@ -13,7 +13,7 @@ use Rattle.grid_geom.specs.Plane.{orient_rat}
 use Rattle.grid_geom.proofs.Ring.{var, num, ◌⊕◌, ◌⊖◌, ◌⊗◌, ring}
 use Rattle.grid_geom.proofs.Signs.{pos_mul, le_mul, ordered}
 use Rattle.grid_geom.proofs.Strips.{IsSpanned, swap_crosses}
-use Rattle.grid_geom.proofs.InnerTangle.{IsInnerTo}
+use Rattle.grid_geom.specs.Segment.{IsInnerTo}
 use Rattle.geom_check.specs.declared.risers.Riser.{Riser}
 use Rattle.geom_check.specs.RiserOrder.{over, under, IsAt, IsAcross, IsFree, IsWest, IsInStrip, IsPassing, IsKey}
 use Rattle.geom_check.specs.Gaps.{middle}

@@ -10,7 +10,7 @@ use Rattle.grid_geom.specs.Bounds.{IsOnGrid, IsWithin}
 use Rattle.grid_geom.specs.declared.TheConstants.{GRID}
 use Rattle.geom_check.specs.declared.strips.Strip.{Strip}
 use Rattle.grid_geom.specs.Sides.{DoCross}
-use Rattle.grid_geom.proofs.InnerTangle.{IsInnerTo}
+use Rattle.grid_geom.specs.Segment.{IsInnerTo}
 use Rattle.geom_check.specs.declared.risers.Riser.{Riser}
 use Rattle.geom_check.specs.declared.risers.Passing.{Passing}
 use Rattle.grid_geom.specs.Plane.{orient_rat, IsRational}
