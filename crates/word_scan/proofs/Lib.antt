@@ -7,3 +7,4 @@ pub mod TokenWalk
 pub mod TokenLaws
 pub mod LongestToken
 pub mod TokenReading
+pub mod Places
