@@ -9,3 +9,4 @@ pub mod Branches
 pub mod Taking
 -- Pieces: cuts in the middle.
 pub mod Cuts
+pub mod Sides

@@ -7,13 +7,14 @@
 
 mod boxes;
 mod cutting;
+mod fields;
 pub mod laws;
 mod pieces;
 mod query;
 mod sizes;
 mod tree;
 
-pub use cutting::MOST_HALVINGS;
+pub use cutting::{MOST_HALVINGS, cut};
 pub use pieces::{Piece, Pieces};
 pub use sizes::Sizes;
 pub use std::alloc::AllocError as OutOfMemory;
