@@ -1,0 +1,2 @@
+//! What is the front of a domain, and how does it change when an element is glued to it?
+#![tactic(auto)]
