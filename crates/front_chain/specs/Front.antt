@@ -2,8 +2,7 @@
 -- Origin: the advancing front of Schoeberl 1997 and of Bonet and Peraire 1991. The code keeps points and lines in hashed tables; these are lists.
 use lib.IntN.{ℤ, pos, negsuc}
 use lib.Signed.{le_z}
-use Rattle.std.specs.Prelude.{◌≡◌, ◌⊎◌, ◌↔◌, ℕ, ◌+◌, ◌-◌, ◌*◌, ◌/◌, ◌^◌, ◌≤◌, Bool, false, ◌&&◌, ◌||◌, nat_eq, nat_lt, not, List, [], ◌∷◌, ◌++◌, length, map, filter, position, Option, Some, None, IsSome}
-use Rattle.std.specs.Int.{int_max, int_min}
+use Rattle.std.specs.Prelude.{◌≡◌, ◌⊎◌, ℕ, ◌+◌, ◌-◌, ◌*◌, ◌/◌, ◌^◌, ◌≤◌, Bool, false, ◌&&◌, ◌||◌, nat_eq, nat_lt, not, List, [], ◌∷◌, ◌++◌, length, map, filter, position, Option, Some, None, is_some}
 use Rattle.std.specs.Option.{option_map, option_map_or}
 use Rattle.std.specs.List.{All, AllByRecursion, Contains, IsDistinct, find, list_any, after_first}
 use Rattle.grid_geom.specs.declared.Point.{Point}
@@ -62,11 +61,13 @@ abbrev pub state_of : FrontState → State
 state_of f = record { points = f.points; front = f.lines; next = f.next; elements = [] }
 
 -- ---- near lines
+-- the span from u to w is not all above `greatest`, nor all below `least`
+abbrev pub does_reach : ℤ → ℤ → ℤ → ℤ → Bool
+does_reach least greatest u w = (le_z u greatest || le_z w greatest) && (le_z least u || le_z least w)
+
 -- the closed box of the edge's ends and the closed box b have a point in common
 abbrev pub does_meet : Bounds → Edge → Bool
-does_meet b e =
-    (le_z (int_min e.a.x e.b.x) b.hi.x && le_z b.lo.x (int_max e.a.x e.b.x))
-    && (le_z (int_min e.a.y e.b.y) b.hi.y && le_z b.lo.y (int_max e.a.y e.b.y))
+does_meet b e = does_reach b.lo.x b.hi.x e.a.x e.b.x && does_reach b.lo.y b.hi.y e.a.y e.b.y
 
 -- whether the number is that of a front line whose box meets b
 abbrev pub is_near : FrontState → Bounds → ℕ → Bool
@@ -87,7 +88,7 @@ or_zero (negsuc n) = 0
 
 -- the walk has the number of each front line once, and no other number
 pub record IsWalk (walk : List ℕ) (lines : List (ℕ × ℕ × ℕ)) : Type 0 where
-  pub each : (n : ℕ) → Contains walk n ↔ IsSome (line_at lines n)
+  pub each : (n : ℕ) → list_any (nat_eq n) walk ≡ is_some (line_at lines n)
   pub once : IsDistinct nat_eq walk
 
 -- the place is a front point, or settled, or its number is waiting
