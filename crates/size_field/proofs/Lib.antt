@@ -7,6 +7,8 @@ pub mod Kept
 -- Trees: what is known of a branch.
 pub mod Branches
 pub mod Taking
--- Pieces: cuts in the middle.
+-- Pieces: middles, cuts in them, and what holds of the pieces.
+pub mod Middles
 pub mod Cuts
+pub mod PartLaws
 pub mod Sides
