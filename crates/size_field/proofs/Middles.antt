@@ -1,5 +1,5 @@
 -- What the middle between two points is, and where it lies.
-use Rattle.std.proofs.Common.{◌≡◌, ℕ, Bool, true, false, cond, ltb, Option, Some, None, unwrap_or, refl, sym, ap, ◌∙◌, subst, arith, ℤ, pos, ◌+ℤ◌, ◌-ℤ◌, ◌*ℤ◌, [], ◌∷◌}
+use Rattle.std.proofs.Common.{◌≡◌, ℕ, Bool, true, false, cond, ltb, Option, Some, None, unwrap_or, refl, sym, ap, ◌∙◌, arith, ℤ, pos, ◌+ℤ◌, ◌-ℤ◌, ◌*ℤ◌, [], ◌∷◌}
 use Rattle.std.proofs.lemmas.Option.{none-some}
 use Rattle.std.proofs.lemmas.Int.{ints, clamps}
 use Rattle.std.proofs.lemmas.Bool.Decides.{Decides-int_eq}
@@ -7,13 +7,12 @@ use Rattle.std.specs.Ordering.{int_eq}
 use Rattle.grid_geom.specs.declared.Point.{Point}
 use Rattle.grid_geom.specs.declared.TheConstants.{GRID}
 use Rattle.grid_geom.specs.Bounds.{IsWithin, IsOnGrid}
-use Rattle.grid_geom.specs.Plane.{orient}
 use Rattle.grid_geom.specs.Sides.{IsOnOpen}
 use Rattle.grid_geom.proofs.Lines.{same_place}
 use Rattle.grid_geom.proofs.Quotients.{floor_least, floor_greatest}
-use Rattle.grid_geom.proofs.Ring.{var, num, ◌⊕◌, ◌⊖◌, ◌⊗◌, ring}
+use Rattle.grid_geom.proofs.Ring.{var, num, ◌⊖◌, ◌⊗◌, ring}
 use Rattle.size_field.specs.Size.{reach}
-use Rattle.size_field.specs.Cutting.{half, half_sum, point_of, middle_of, where_longer, cut_at, next_cut, IsMiddle}
+use Rattle.size_field.specs.Cutting.{half, half_sum, point_of, middle_of, where_longer, cut_at, IsMiddle}
 
 -- ---- from the option to the middle
 some_is : {X : Type 0} (b : Bool) (z x : X) → cond b (Some z) None ≡ Some x → (b ≡ true) × (z ≡ x)

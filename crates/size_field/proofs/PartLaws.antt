@@ -1,21 +1,19 @@
 -- What holds of the pieces of a segment: they lie on the grid, have two ends, wind as their segment does, and are untangled where it is.
-use Rattle.std.proofs.Common.{◌≡◌, ℕ, zero, suc, List, [], ◌∷◌, ◌++◌, Option, Some, None, refl, sym, ap, ◌∙◌, subst, append_assoc, ℤ, pos, ◌+ℤ◌}
+use Rattle.std.proofs.Common.{◌≡◌, ℕ, zero, suc, List, [], ◌∷◌, ◌++◌, Option, Some, None, refl, sym, ap, ◌∙◌, subst, append_assoc, ◌+ℤ◌}
 use Rattle.std.specs.List.{AllByRecursion}
 use Rattle.grid_geom.specs.declared.Point.{Point}
 use Rattle.grid_geom.specs.declared.RatPoint.{RatPoint}
 use Rattle.grid_geom.specs.declared.Edge.{Edge}
-use Rattle.grid_geom.specs.Bounds.{IsOnGrid}
 use Rattle.grid_geom.specs.Plane.{IsRational}
 use Rattle.grid_geom.specs.Sides.{IsOnOpen}
 use Rattle.grid_geom.specs.Winding.{wind}
 use Rattle.grid_geom.specs.Closed.{IsEdge}
-use Rattle.geom_check.specs.Boundary.{IsEdgeOnGrid}
 use Rattle.wind_law.specs.Chains.{edge}
 use Rattle.wind_law.proofs.Additive.{wind_append, wind_cut}
 use Rattle.state_law.proofs.Lists.{all_append, all_first, all_second}
 use Rattle.state_law.proofs.Cut.{free_cut}
 use Rattle.size_field.specs.Parts.{IsPart, AreUntangled}
-use Rattle.size_field.specs.Cutting.{cut_at, on_both_sides, parts, IsMiddle}
+use Rattle.size_field.specs.Cutting.{cut_at, on_both_sides, parts}
 use Rattle.size_field.proofs.Middles.{cut_is, middle_on_grid, middle_on_open}
 
 -- what holds of the two halves of a part
