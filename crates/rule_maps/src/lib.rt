@@ -7,5 +7,6 @@
 #![tactic(auto)]
 
 mod frame;
+mod sums;
 
 pub use frame::Frame;
