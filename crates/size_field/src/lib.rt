@@ -15,6 +15,7 @@ mod sizes;
 mod tree;
 
 pub use cutting::{MOST_HALVINGS, cut};
+pub use fields::sizes_of;
 pub use pieces::{Piece, Pieces};
 pub use sizes::Sizes;
 pub use std::alloc::AllocError as OutOfMemory;
