@@ -21,7 +21,8 @@ pub mod Sound
 pub mod PlacedGrid
 pub mod Refusals
 pub mod GridFaults
-pub mod DomainLists
+pub mod DomainNumbers
+pub mod KeptSizes
 pub mod Acceptance
 pub mod GapMiddles
 pub mod SomeShift

@@ -22,7 +22,7 @@ signed_within : (z : ℤ) (m : ℕ) → m ≤ 16384 → IsWithin GRID (signed_as
 signed_within (pos n) m h = record { least = omega (arith, ints); greatest = omega (arith, ints) }
 signed_within (negsuc n) m h = record { least = omega (arith, ints); greatest = omega (arith, ints) }
 
-place_on_grid : (shift : ℤ) (row : PointRow) → FitsRow shift row → IsOnGrid (place_of shift row)
+pub place_on_grid : (shift : ℤ) (row : PointRow) → FitsRow shift row → IsOnGrid (place_of shift row)
 place_on_grid shift row fits = record { x_within = signed_within row.x.digits (magnitude_at shift row.x) fits.x; y_within = signed_within row.y.digits (magnitude_at shift row.y) fits.y }
 
 places_on_grid : (shift : ℤ) (rows : List PointRow) → All (FitsRow shift) rows → All IsOnGrid (points_of shift rows)

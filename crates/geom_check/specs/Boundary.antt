@@ -4,12 +4,13 @@
 -- edge_of     a segment as an edge, from its first point to its last
 -- edges_of    the edges of all segments, in their order
 -- boundary    the edges round a domain, each with the domain on its left
-use Rattle.std.specs.Prelude.{ℕ, ◌-◌, ◌≤◌, ◌==◌, Bool, cond, true, false, List, [], ◌∷◌, map, slice_index_or, pos}
+use Rattle.std.specs.Prelude.{ℕ, ◌-◌, ◌<◌, ◌≤◌, ◌==◌, Bool, cond, true, false, List, [], ◌∷◌, map, slice_index_or, pos}
 use Rattle.grid_geom.specs.declared.Point.{Point}
 use Rattle.grid_geom.specs.declared.Edge.{Edge}
 use Rattle.grid_geom.specs.Closed.{same_point}
 use Rattle.grid_geom.specs.Bounds.{IsOnGrid}
 use Rattle.geom_check.specs.declared.kinds.Segment.{Segment}
+use Rattle.geom_check.specs.declared.kinds.TheConstants.{MOST_BOUNDARY_NUMBER}
 
 -- the point of a row, from 1; past the last row the origin stands
 abbrev pub point_at : List Point → ℕ → Point
@@ -36,6 +37,10 @@ pub record IsSegmentOf (count : ℕ) (s : Segment) : Type 0 where
   pub q_greatest : s.q ≤ count
   pub left : s.left ≤ 64
   pub right : s.right ≤ 64
+
+-- a boundary number: from 1 to the greatest that a file may give
+abbrev pub IsBoundaryNumber : ℕ → Type 0
+IsBoundaryNumber n = (0 < n) × (n ≤ MOST_BOUNDARY_NUMBER)
 
 -- 1 where the edge leaves a point, else 0; and 1 where it arrives there
 abbrev pub departures_of : Edge → Point → ℕ

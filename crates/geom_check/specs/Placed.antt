@@ -4,7 +4,7 @@
 -- points_of     the points, in the order of their rows
 -- row_of        the number of the row of a point, from 1
 -- segments_of   the segments, with their ends by rows
-use Rattle.std.specs.Prelude.{◌≡◌, ℕ, ◌+◌, ◌<◌, ◌≤◌, ◌==◌, ◌^◌, List, [], ◌∷◌, length, map, All, Option, Some, None, IsSome, unwrap_or, ℤ, pos, negsuc, ◌≤ℤ◌, unsigned_abs}
+use Rattle.std.specs.Prelude.{◌≡◌, ℕ, ◌+◌, ◌<◌, ◌≤◌, ◌==◌, ◌^◌, List, [], ◌∷◌, length, map, All, Option, Some, None, IsSome, IfSome, unwrap_or, ℤ, pos, negsuc, ◌≤ℤ◌, unsigned_abs}
 use Rattle.std.specs.List.{position_from}
 use Rattle.word_scan.specs.declared.decimals.Dec.{Dec}
 use Rattle.grid_geom.specs.declared.Point.{Point}
@@ -14,6 +14,7 @@ use Rattle.in2d_reader.specs.declared.geometry.MaterialRow.{MaterialRow}
 use Rattle.in2d_reader.specs.declared.geometry.RawGeometry.{RawGeometry}
 use Rattle.geom_check.specs.declared.kinds.Segment.{Segment}
 use Rattle.geom_check.specs.declared.placing.Placed.{Placed}
+use Rattle.geom_check.specs.Boundary.{IsBoundaryNumber}
 use Rattle.geom_check.specs.Shift.{grid_at, size_at, FitsRow, IsShift}
 
 -- below 10 ^ 30 in absolute value, with a scale from -99 to 99
@@ -36,10 +37,11 @@ pub record IsReadablePoint (row : PointRow) : Type 0 where
 abbrev pub row_in : List PointRow → ℕ → Option ℕ
 row_in rows number = position_from (λ row. row.number == number) 1 rows
 
--- both ends are points of the file, and the domains are at most 64
+-- both ends are points of the file, a boundary number that is given is one, and the domains are at most 64
 pub record IsReadableSegment (points : List PointRow) (row : SegmentRow) : Type 0 where
   pub p_known : IsSome (row_in points row.p)
   pub q_known : IsSome (row_in points row.q)
+  pub bc : IfSome row.bc IsBoundaryNumber
   pub maxh : IsReadableIfAny row.maxh
   pub left : row.left ≤ 64
   pub right : row.right ≤ 64

@@ -74,14 +74,16 @@ impl Geometry {
 
     /// The points that bound the sizes around them, in the order of the file's rows.
     pub fn flagged(&self) -> &[Source]
-        ensures { result.now ≡ self.now.flagged }
+        ensures value { result.now ≡ self.now.flagged }
+        ensures accepted { IsGeometry self.now }
     {
         self.flagged.as_slice()
     }
 
     /// The domains that segments name, rising.
     pub fn domains(&self) -> &[Domain]
-        ensures { result.now ≡ self.now.domains }
+        ensures value { result.now ≡ self.now.domains }
+        ensures accepted { IsGeometry self.now }
     {
         self.domains.as_slice()
     }

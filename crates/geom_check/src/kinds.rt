@@ -7,6 +7,9 @@ ghost use Rattle.geom_check.specs.declared.kinds.Domain.{Domain as DomainValue};
 use grid_geom::Point;
 use std::marker::Model;
 
+/// The greatest boundary number.
+pub const MOST_BOUNDARY_NUMBER: u32 = 999_999;
+
 /// A directed segment with a domain on each side, of which 0 is the outside.
 #[derive(Clone, Copy, Debug, PartialEq, Eq)]
 pub struct Segment {

@@ -3,6 +3,7 @@
 
 mod boundaries;
 mod checking;
+mod domains;
 mod gaps;
 mod geometry;
 mod kinds;
@@ -16,6 +17,7 @@ mod strips;
 mod windings;
 
 pub use checking::check;
+pub use domains::domain_numbers;
 pub use geometry::Geometry;
 pub use kinds::{Domain, Domains, Segment, Segments, Source, Sources};
 pub use placing::{Placed, place};

@@ -1,8 +1,10 @@
 // Whether a geometry is within a reader's ranges: what a test makes sure of before it checks one.
-ghost use Rattle.std.specs.Prelude.{◌≡◌, ◌==◌, IsTrue, IsSome, All};
+ghost use Rattle.std.specs.Prelude.{◌≡◌, ◌==◌, IsTrue, IsSome, IfSome, All};
 ghost use Rattle.std.specs.List.{list_any};
+ghost use Rattle.geom_check.specs.Boundary.{IsBoundaryNumber};
 ghost use Rattle.geom_check.specs.Placed.{IsReadable, IsReadableNumber, IsReadableIfAny, IsReadablePoint, IsReadableSegment, IsReadableMaterial, row_in};
 
+use crate::kinds::MOST_BOUNDARY_NUMBER;
 use in2d_reader::{MaterialRow, PointRow, RawGeometry, SegmentRow};
 use word_scan::Dec;
 
@@ -40,11 +42,21 @@ fn is_known(points: &[PointRow], number: u32) -> bool
     has_number(points, number)
 }
 
+fn is_boundary_number(bc: Option<u32>) -> bool
+    ensures { IsTrue result → IfSome bc IsBoundaryNumber }
+{
+    match bc {
+        Some(n) => 0 < n && n <= MOST_BOUNDARY_NUMBER,
+        None => true,
+    }
+}
+
 fn is_readable_segment(points: &[PointRow], row: &SegmentRow) -> bool
     ensures { IsTrue result → IsReadableSegment points.now row.now }
 {
     is_known(points, row.p)
         && is_known(points, row.q)
+        && is_boundary_number(row.bc)
         && is_readable_if_any(&row.maxh)
         && row.left <= 64
         && row.right <= 64

@@ -14,7 +14,8 @@ use Rattle.size_field.specs.declared.pieces.Piece.{Piece}
 use Rattle.mesh_run.specs.Boundary.{IsNumberTo, piece_boundary, piece_edge, segment_of, turned_to, whole_pieces, whole_pieces_from}
 use Rattle.mesh_run.specs.Numbering.{ends_of, is_among, number_in}
 use Rattle.mesh_run.specs.Opening.{mesh_points, domain_points, numbered, opening_lines, front_from, unmeshed_run, front_edges}
-use Rattle.mesh_run.specs.Whole.{domain_numbers, unmeshed_runs}
+use Rattle.geom_check.specs.Domains.{domain_numbers}
+use Rattle.mesh_run.specs.Whole.{unmeshed_runs}
 use Rattle.mesh_run.proofs.Ranges.{all_of}
 use Rattle.mesh_run.proofs.Listed.{same_place, same_itself, among_first}
 

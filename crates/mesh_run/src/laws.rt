@@ -1,7 +1,7 @@
 //! The laws of an opening, each as the contract of a function that does nothing.
 
-ghost use Rattle.std.specs.Prelude.{◌≡◌, ◌<◌, ◌&&◌, ℕ, List, All, length, nat_eq, not, true};
-ghost use Rattle.std.specs.List.{list_any, IsDistinct};
+ghost use Rattle.std.specs.Prelude.{◌≡◌, ◌<◌, ℕ, List, All, length, true};
+ghost use Rattle.std.specs.List.{IsDistinct};
 ghost use Rattle.grid_geom.specs.Bounds.{IsOnGrid};
 ghost use Rattle.grid_geom.specs.Closed.{same_point};
 ghost use Rattle.grid_geom.specs.declared.Point.{Point};
@@ -13,7 +13,7 @@ ghost use Rattle.size_field.specs.declared.pieces.Piece.{Piece};
 ghost use Rattle.mesh_run.specs.Boundary.{piece_boundary, whole_pieces, IsNumberTo, IsPieceOnGrid};
 ghost use Rattle.mesh_run.specs.Mesh.{mesh_of_run, RowJoins};
 ghost use Rattle.mesh_run.specs.Numbering.{by_first_occurrence, is_among, number_in};
-ghost use Rattle.mesh_run.specs.Whole.{domain_numbers, sides_of, unmeshed_runs, IsRising};
+ghost use Rattle.mesh_run.specs.Whole.{unmeshed_runs};
 ghost use Rattle.mesh_run.specs.declared.WholeRun.{WholeRun};
 ghost use Rattle.mesh_run.specs.Opening.{front_edges, mesh_points, unmeshed_run, FrontJoins};
 
@@ -45,10 +45,4 @@ pub fn law_ranges()
     ensures front { (d : ℕ) (segments : List Segment) (pieces : List Piece) → All (FrontJoins (length (unmeshed_run d segments pieces).points)) (unmeshed_run d segments pieces).front }
     ensures rows { (w : WholeRun) (segments : List Segment) → All (RowJoins (length (mesh_of_run w segments).points)) (mesh_of_run w segments).edges }
     ensures on_grid { (pieces : List Piece) → All IsPieceOnGrid pieces → All IsOnGrid (mesh_points pieces) }
-{}
-
-/// The numbers of the domains rise, and are those above 0 that stand on a side of a segment.
-pub fn law_domains()
-    ensures rising { (segments : List Segment) → IsRising (domain_numbers segments) }
-    ensures named { (segments : List Segment) (d : ℕ) → list_any (nat_eq d) (domain_numbers segments) ≡ (not (nat_eq d 0) && list_any (nat_eq d) (sides_of segments)) }
 {}

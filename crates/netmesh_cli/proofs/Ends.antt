@@ -17,9 +17,10 @@ use Rattle.geom_check.specs.Geometry.{PlanarMap, IsGeometryOf}
 use Rattle.mesh_run.specs.declared.End.TheVariants.{Done, Stuck, Stopped}
 use Rattle.mesh_run.specs.Boundary.{whole_pieces}
 use Rattle.mesh_run.specs.Opening.{end_of_front}
-use Rattle.mesh_run.specs.Whole.{domain_numbers, sides_of, is_stopped, is_stuck}
+use Rattle.geom_check.specs.Domains.{domain_numbers, sides_of}
+use Rattle.mesh_run.specs.Whole.{is_stopped, is_stuck}
 use Rattle.mesh_run.proofs.Bounded.{front_is_boundary, whole_boundary}
-use Rattle.mesh_run.proofs.DomainNumbers.{numbers_named}
+use Rattle.geom_check.proofs.DomainNumbers.{numbers_named}
 use Rattle.netmesh_cli.specs.Accepted.{run_of}
 use Rattle.netmesh_cli.proofs.Works.{run_in}
 

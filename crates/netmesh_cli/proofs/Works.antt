@@ -16,9 +16,9 @@ use Rattle.geom_check.specs.Geometry.{PlanarMap}
 use Rattle.mesh_run.specs.declared.domain_run.DomainRun.{DomainRun}
 use Rattle.mesh_run.specs.Boundary.{whole_pieces}
 use Rattle.mesh_run.specs.Opening.{unmeshed_run, front_edges}
-use Rattle.mesh_run.specs.Whole.{domain_numbers, with_domain, sides_of, IsRising}
+use Rattle.geom_check.specs.Domains.{domain_numbers, with_domain, sides_of, IsRising}
 use Rattle.mesh_run.proofs.Bounded.{front_is_boundary, whole_boundary}
-use Rattle.mesh_run.proofs.DomainNumbers.{numbers_rise}
+use Rattle.geom_check.proofs.DomainNumbers.{numbers_rise}
 use Rattle.netmesh_cli.specs.Accepted.{IsOffSegments, IsWound, DoBothWind, IsCovered}
 
 -- the numbers of domains are above 0
