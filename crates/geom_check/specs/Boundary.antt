@@ -10,6 +10,7 @@ use Rattle.grid_geom.specs.declared.Point.{Point}
 use Rattle.grid_geom.specs.declared.Edge.{Edge}
 use Rattle.grid_geom.specs.Closed.{same_point}
 pub use Rattle.wind_law.specs.Chains.{back}
+pub use Rattle.wind_law.specs.Grid.{IsEdgeOnGrid}
 use Rattle.geom_check.specs.declared.kinds.Segment.{Segment}
 use Rattle.geom_check.specs.declared.limits.TheConstants.{MOST_DOMAINS, MOST_BOUNDARY_NUMBER}
 

@@ -3,6 +3,7 @@ use Rattle.std.proofs.Common.{◌≡◌, ◌≢◌, ℕ, ◌+◌, ◌<◌, false
 use Rattle.std.specs.Prelude.{MatchResult}
 use Rattle.std.specs.List.{AllByRecursion}
 use Rattle.std.proofs.lemmas.List.{append-nil}
+use Rattle.word_scan.proofs.Places.{Here, Sooner, Later, places}
 use Rattle.in2d_reader.specs.declared.geometry.PointRow.{PointRow}
 use Rattle.in2d_reader.specs.declared.geometry.SegmentRow.{SegmentRow}
 use Rattle.in2d_reader.specs.declared.geometry.RawGeometry.{RawGeometry}
@@ -23,34 +24,6 @@ one_value words raw other d e =
     let b = read_loosely words other e in
     let same : a.last ≡ b.last = ok_is _ _ (sym a.read ∙ b.read) in
     ok_is _ _ (sym (a.finish 0) ∙ ap (λ (m : Draft). finish m 0) same ∙ b.finish 0)
-
--- ---- two places in a list
-
-data Places {A : Type 0} (b : List A) (w : A) (c : List A) (v : A) : Type 0 where
-  Here : b ≡ c → w ≡ v → Places b w c v
-  Sooner : (rest : List A) → c ≡ (b ++ w ∷ []) ++ rest → Places b w c v
-  Later : (rest : List A) → b ≡ (c ++ v ∷ []) ++ rest → Places b w c v
-
-heads : {A : Type 0} (x y : A) (xs ys : List A) → x ∷ xs ≡ y ∷ ys → x ≡ y
-heads x y xs ys e = cc
-
-tails : {A : Type 0} (x y : A) (xs ys : List A) → x ∷ xs ≡ y ∷ ys → xs ≡ ys
-tails x y xs ys e = cc
-
-joins : {A : Type 0} (x y : A) (xs ys : List A) → x ≡ y → xs ≡ ys → x ∷ xs ≡ y ∷ ys
-joins x y xs ys e f = cc
-
-places : {A : Type 0} (b : List A) (w : A) (a : List A) (c : List A) (v : A) (d : List A) → b ++ (w ∷ a) ≡ c ++ (v ∷ d) → Places b w c v
-places [] w a [] v d e = Here refl (heads w v a d e)
-places [] w a (x ∷ c) v d e = Sooner c (joins x w c c (sym (heads w x a (c ++ (v ∷ d)) e)) refl)
-places (y ∷ b) w a [] v d e = Later b (joins y v b b (heads y v (b ++ (w ∷ a)) d e) refl)
-places (y ∷ b) w a (x ∷ c) v d e =
-    let first = heads y x (b ++ (w ∷ a)) (c ++ (v ∷ d)) e in
-    elim (places b w a c v d (tails y x (b ++ (w ∷ a)) (c ++ (v ∷ d)) e)) [
-      | Here p q ↦ Here (joins y x b c first p) q
-      | Sooner rest p ↦ Sooner rest (joins x y c ((b ++ w ∷ []) ++ rest) (sym first) p)
-      | Later rest p ↦ Later rest (joins y x b ((c ++ v ∷ []) ++ rest) first p)
-    ]
 
 -- ---- fronts
 
