@@ -9,4 +9,11 @@ pub mod Ranges
 pub mod Summing
 pub mod Rows
 -- Places: what a local place is on the grid.
-pub mod Placing
+pub mod GridPlaces
+pub mod Putting
+pub mod Constants
+pub mod Compiling
+-- Rules: balance, reach.
+pub mod Balance
+pub mod Idle
+pub mod Reaches

@@ -42,7 +42,7 @@ on_side true false z = z
 on_side false true z = pos 0 -ℤ z
 on_side false false z = pos 0
 
-abbrev turned_by : Bool → Bool → Edge → List Edge
+abbrev pub turned_by : Bool → Bool → Edge → List Edge
 turned_by left right e = with_edge left e (with_edge right (back e) [])
 
 one_turned : (q : RatPoint) (left right : Bool) (e : Edge) → wind q (turned_by left right e) ≡ on_side left right (cross q e)
@@ -84,23 +84,23 @@ same_turned q left right es e h =
     alone z = omega (arith, ints)
 
 -- ---- the pieces of one segment in a domain's boundary
-segment_after : (all before : List Segment) (s : Segment) (ss : List Segment) (a b : Point) → all ≡ before ++ s ∷ ss → segment_of all (record { segment = length before + 1; a = a; b = b }) ≡ s
+pub segment_after : (all before : List Segment) (s : Segment) (ss : List Segment) (a b : Point) → all ≡ before ++ s ∷ ss → segment_of all (record { segment = length before + 1; a = a; b = b }) ≡ s
 segment_after all before s ss a b h =
     let back_to : length before + 1 - 1 ≡ length before = omega arith in
     let none : Segment = record { left = 0; right = 0; p = 0; q = 0; bc = 0; maxh = None } in
     (λ i. slice_index_or (h i) (back_to i) none) ∙ get_or-append_seam before s ss none
 
-of_segment : (d : ℕ) (all : List Segment) (s : Segment) (n : ℕ) (es : List Edge) → ((a b : Point) → segment_of all (record { segment = n; a = a; b = b }) ≡ s) → piece_boundary d all (map (piece_of n) es) ≡ flat_map (turned_by (s.left == d) (s.right == d)) es
+pub of_segment : (d : ℕ) (all : List Segment) (s : Segment) (n : ℕ) (es : List Edge) → ((a b : Point) → segment_of all (record { segment = n; a = a; b = b }) ≡ s) → piece_boundary d all (map (piece_of n) es) ≡ flat_map (turned_by (s.left == d) (s.right == d)) es
 of_segment d all s n [] is = refl
 of_segment d all s n (e ∷ es) is = (λ i. turned_to d (is e.a e.b i) e ++ of_segment d all s n es is i)
 
-boundary_append : (d : ℕ) (all : List Segment) (ps qs : List Piece) → piece_boundary d all (ps ++ qs) ≡ piece_boundary d all ps ++ piece_boundary d all qs
+pub boundary_append : (d : ℕ) (all : List Segment) (ps qs : List Piece) → piece_boundary d all (ps ++ qs) ≡ piece_boundary d all ps ++ piece_boundary d all qs
 boundary_append d all [] qs = refl
 boundary_append d all (p ∷ ps) qs =
     ap (λ (es : List Edge). turned_to d (segment_of all p) (piece_edge p) ++ es) (boundary_append d all ps qs)
     ∙ sym (append_assoc (turned_to d (segment_of all p) (piece_edge p)) (piece_boundary d all ps) (piece_boundary d all qs))
 
-with_turned : (left right : Bool) (e : Edge) (rest : List Edge) → with_edge left e (with_edge right (back e) rest) ≡ turned_by left right e ++ rest
+pub with_turned : (left right : Bool) (e : Edge) (rest : List Edge) → with_edge left e (with_edge right (back e) rest) ≡ turned_by left right e ++ rest
 with_turned true true e rest = refl
 with_turned true false e rest = refl
 with_turned false true e rest = refl

@@ -14,4 +14,5 @@ pub mod PartLaws
 pub mod Rows
 pub mod AllPieces
 pub mod Bounds
+pub mod Regions
 pub mod Sides
