@@ -2,7 +2,7 @@
 use Prim.Native.Nat.{ℕ, zero, suc, ◌+◌, ◌-◌, ◌≤◌, ◌<◌}
 use lib.ListN.{length, drop}
 use mathlib.Core.Path.{◌≡◌, refl, sym, ap, ◌∙◌, subst}
-use mathlib.Core.Bool.{Bool, true, false, cond, not, ◌&&◌, ◌||◌}
+use mathlib.Core.Bool.{Bool, true, false, cond, not, ◌||◌}
 use mathlib.Core.List.{List, [], ◌∷◌, map}
 use native.Mathlib.Omega.{arith}
 use Rattle.std.specs.Prelude.{nat_eq, nat_lt, is_some, position, slice_get, Option, Some, None}

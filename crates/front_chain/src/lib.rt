@@ -2,5 +2,9 @@
 #![tactic(auto)]
 
 mod chain;
+mod front;
+mod gluing;
+mod opening;
 
+pub use front::{Front, Near};
 pub use std::alloc::AllocError as OutOfMemory;

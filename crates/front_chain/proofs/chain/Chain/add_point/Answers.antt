@@ -1,8 +1,6 @@
-use Rattle.std.proofs.Common.{◌≡◌, ◌∙◌, ◌++◌, ◌∷◌, [], sym, ap, subst, IfOk, List}
-use Rattle.grid_geom.specs.declared.Point.{Point}
+use Rattle.std.proofs.Common.{◌≡◌, ◌∙◌, ◌++◌, ◌∷◌, [], ap, subst, IfOk}
 use Rattle.indexmap.specs.IndexSet.{insert_key}
 use Rattle.front_chain.specs.Front.{number_of}
-use Rattle.front_chain.specs.Tables.{AreTables}
 use Rattle.front_chain.proofs.Places.{same_place, new_keys}
 use Rattle.front_chain.proofs.Tabled.{listed_at}
 use Rattle.front_chain.proofs.chain.Chain.add_point.Goals as goal

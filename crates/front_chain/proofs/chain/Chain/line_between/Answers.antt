@@ -1,4 +1,4 @@
-use Rattle.std.proofs.Common.{◌≡◌, ◌∙◌, sym, ap}
+use Rattle.std.proofs.Common.{◌∙◌, sym, ap}
 use Rattle.front_chain.specs.Front.{number_between}
 use Rattle.front_chain.proofs.Tabled.{number_tabled}
 use Rattle.front_chain.proofs.chain.Chain.line_between.Goals as goal

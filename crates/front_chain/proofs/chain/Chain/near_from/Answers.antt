@@ -1,8 +1,7 @@
-use Rattle.std.proofs.Common.{◌≡◌, ◌∙◌, ◌+◌, sym, ap, subst, drop, length, arith}
+use Rattle.std.proofs.Common.{◌∙◌, ◌+◌, sym, ap, subst, drop, length, arith}
 use Rattle.std.specs.List.{find}
 use Rattle.std.specs.Option.{option_map}
 use Rattle.std.specs.Map.Iter.{deref_pair}
-use Rattle.std.proofs.lemmas.Map.Entries.{length-values_of}
 use Rattle.state_law.specs.State.{IsListed}
 use Rattle.front_chain.specs.Front.{is_near}
 use Rattle.front_chain.proofs.Walks.{entered, entry_listed, near_ends, find_here, find_further, find_past}

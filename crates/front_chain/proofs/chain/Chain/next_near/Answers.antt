@@ -1,9 +1,9 @@
-use Rattle.std.proofs.Common.{◌≡◌, ◌∙◌, ◌+◌, sym, ap, subst, drop, Some, is_some, nat_eq}
+use Rattle.std.proofs.Common.{◌∙◌, ◌+◌, sym, ap, drop, is_some, nat_eq}
 use Rattle.std.specs.List.{find, position_or_len}
 use Rattle.std.specs.Map.{keys_of}
 use Rattle.front_chain.specs.declared.chain.Side.{Side}
 use Rattle.front_chain.proofs.Lines.{same_side}
-use Rattle.front_chain.specs.Front.{is_near, line_at, next_in_walk}
+use Rattle.front_chain.specs.Front.{is_near, line_at}
 use Rattle.front_chain.proofs.Walks.{entered, number_there, place_of, some_place}
 use Rattle.front_chain.proofs.chain.Chain.next_near.Goals as goal
 

@@ -1,4 +1,4 @@
-use Rattle.std.proofs.Common.{◌≡◌, ◌∙◌, sym, ap, rules, not, nat_eq}
+use Rattle.std.proofs.Common.{◌∙◌, ap, rules, not, nat_eq}
 use Rattle.std.specs.List.{list_any}
 use Rattle.std.proofs.lemmas.Fn.{filter_same}
 use Rattle.front_chain.specs.Front.{still_waiting}
