@@ -36,7 +36,7 @@ pub struct Chain {
 impl Model for Chain {
     ghost use Rattle.std.specs.Prelude.{ℕ, ◌+◌, ◌-◌, min, length};
     ghost use Rattle.std.specs.Vec.{vec_len, vec_capacity};
-    ghost use Rattle.indexmap.specs.IndexMap.{get, values, spare as room_of_map};
+    ghost use Rattle.indexmap.specs.IndexMap.{get, values, spare as room_of_map, IsUnique};
     ghost use Rattle.indexmap.specs.IndexSet.{spare as room_of_set};
     ghost use Rattle.front_chain.specs.contracts.chain.SidePartialEq.TheImpl.{ghosts as side};
     ghost use Rattle.front_chain.specs.Front.{FrontState};
@@ -54,7 +54,7 @@ impl Model for Chain {
       spare_lines = min (room_of_map c.sides) (vec_capacity c.made - vec_len c.made);
     } };
 
-    ghost invariant = { λ c. AreTables c.places.keys c.leaving.items c.made.items (λ s. get side.eq c.sides s) };
+    ghost invariant = { λ c. AreTables c.places.keys c.leaving.items c.made.items (λ s. get side.eq c.sides s) × IsUnique side.eq c.sides };
 }
 
 /// The ends of the line with this number in a table by line numbers.
@@ -273,8 +273,7 @@ impl Chain {
 
     /// The number of lines.
     pub fn lines(&self) -> u64
-        ensures count { result ≡ length self.now.lines }
-        ensures walked { IsWalk self.now.walk self.now.lines }
+        ensures { result ≡ length self.now.lines }
     {
         self.sides.len() as u64
     }
@@ -289,6 +288,7 @@ impl Chain {
     /// These points wait no longer.
     pub fn use_points(&mut self, used: &[u64])
         ensures waiting { self.new.waiting ≡ still_waiting self.old.waiting used.now }
+        ensures walked { IsWalk self.new.walk self.new.lines }
         ensures points { self.new.points ≡ self.old.points }
         ensures lines { self.new.lines ≡ self.old.lines }
         ensures next { self.new.next ≡ self.old.next }
@@ -302,6 +302,7 @@ impl Chain {
     /// No point waits that a line leaves.
     pub fn use_starts(&mut self)
         ensures waiting { self.new.waiting ≡ filter (λ n. not (list_any (λ line. nat_eq line.1 n) self.old.lines)) self.old.waiting }
+        ensures walked { IsWalk self.new.walk self.new.lines }
         ensures points { self.new.points ≡ self.old.points }
         ensures lines { self.new.lines ≡ self.old.lines }
         ensures next { self.new.next ≡ self.old.next }

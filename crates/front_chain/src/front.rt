@@ -61,7 +61,6 @@ impl Front {
         join_lines(&mut chain, lines);
         chain.use_starts();
         let area = swept_area(points, lines);
-        chain.lines();
         Ok(Front { chain, area })
     }
 
@@ -212,7 +211,6 @@ impl Front {
         let taken = element_area(&self.chain, corners);
         glue_sides(&mut self.chain, corners);
         self.chain.use_points(corners);
-        self.chain.lines();
         self.area -= taken;
     }
 }

@@ -38,7 +38,7 @@ invariant_of-self c =
     let next = c.use_points.ensures.next ∙ c.glue_sides.ensures.next ∙ ap (λ ns. next_after_all f.lines f.next (number_sides ns)) c.as_slice-corners.ensures in
     let points = c.use_points.ensures.points ∙ c.glue_sides.ensures.points in
     let waiting = c.use_points.ensures.waiting ∙ (λ i. still_waiting (c.glue_sides.ensures.waiting i) (c.as_slice-corners.ensures i)) in
-    let walked = subst (IsWalk c.use_points.new.self.walk) lines c.lines.ensures.walked in
+    let walked = subst (IsWalk c.use_points.new.self.walk) lines c.use_points.ensures.walked in
     let area = area_left f el c.self.inside.area c.element_area-taken.result c.self.invariant.0 may c.self.invariant.1 (c.element_area-taken.ensures ∙ ap (λ ns. shoelace (sides (corners_of f.points ns))) c.as_slice-corners.ensures) in
     let whole : SFits w128 c.self.inside.area = area.fits in
     let taken : SFits w128 c.element_area-taken.result = record { sfits = c.element_area-taken.type_inv } in

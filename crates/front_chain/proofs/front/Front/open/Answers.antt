@@ -28,7 +28,7 @@ invariant_of-result c =
     let next = c.use_starts.ensures.next ∙ c.join_lines.ensures.next in
     let numbers = c.join_lines.ensures.waiting ∙ c.list_points.ensures.waiting in
     let waiting = c.use_starts.ensures.waiting ∙ (λ i. filter (λ n. not (list_any (λ line. nat_eq line.1 n) (c.join_lines.ensures.lines i))) (numbers i)) in
-    let walked = subst (IsWalk new.walk) lines c.lines.ensures.walked in
+    let walked = subst (IsWalk new.walk) lines c.use_starts.ensures.walked in
     let swept : SFits w128 c.swept_area-area.result = record { sfits = c.swept_area-area.type_inv } in (
       front_as (opened c.args.points.now c.args.lines.now new.walk) new (sym points) (sym lines) (sym next) (λ i. new.walk) (sym waiting) (front_opened c.args.points.now c.args.lines.now new.walk c.requires walked),
       simp to_z-of_z (c.swept_area-area.ensures ∙ ap shoelace (sym (edges_opened c.args.points.now 1 c.args.lines.now)) ∙ sym (λ i. shoelace (front_edges (points i) (lines i)))),
