@@ -10,7 +10,8 @@ use Rattle.grid_geom.specs.Plane.{orient}
 use Rattle.grid_geom.specs.Sides.{DoCross, DoTangle, crossing}
 use Rattle.grid_geom.proofs.Ring.{var, ◌⊖◌, ◌⊗◌, ring}
 use Rattle.grid_geom.proofs.Signs.{ordered}
-use Rattle.grid_geom.proofs.InnerTangle.{IsInnerTo, inner_back, inner_tangles}
+use Rattle.grid_geom.specs.Segment.{IsInnerTo}
+use Rattle.grid_geom.proofs.InnerTangle.{inner_back, inner_tangles}
 use Rattle.geom_check.specs.declared.kinds.Segment.{Segment}
 use Rattle.geom_check.specs.declared.risers.Riser.{Riser}
 use Rattle.geom_check.specs.Boundary.{point_at, edge_of}

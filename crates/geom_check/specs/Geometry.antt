@@ -1,11 +1,14 @@
 -- What an accepted geometry keeps of its file.
 --
 -- PlanarMap      points and segments on the grid, the sizes around points, and the domains
--- IsGeometry     what holds of each of them
+-- sources_of     the points of a file that bound sizes
+-- domains_of     the domains that segments name, each with the size that the file gives
+-- IsLength       a length from 1 to the greatest that a size may have
+-- IsGeometry     what holds of each accepted geometry
 -- IsGeometryOf   the geometry of a file
-use Rattle.std.specs.Prelude.{◌≡◌, ℕ, zero, suc, ◌+◌, ◌≤◌, ◌==◌, ◌||◌, Bool, true, false, if◌then◌else◌, List, [], ◌∷◌, length, All, Option, Some, None, ℤ, pos, negsuc, ◌≤ℤ◌}
-use Rattle.std.specs.List.{list_any}
+use Rattle.std.specs.Prelude.{◌≡◌, ℕ, ◌≤◌, ◌==◌, if◌then◌else◌, List, [], ◌∷◌, length, map, All, Option, Some, None, ℤ, ◌≤ℤ◌}
 use Rattle.grid_geom.specs.declared.Point.{Point}
+use Rattle.grid_geom.specs.declared.TheConstants.{LONGEST}
 use Rattle.grid_geom.specs.Bounds.{IsOnGrid}
 use Rattle.in2d_reader.specs.declared.geometry.PointRow.{PointRow}
 use Rattle.in2d_reader.specs.declared.geometry.MaterialRow.{MaterialRow}
@@ -15,8 +18,10 @@ use Rattle.geom_check.specs.declared.kinds.Source.{Source}
 use Rattle.geom_check.specs.declared.kinds.Domain.{Domain}
 use Rattle.geom_check.specs.Shift.{size_at, IsShift}
 use Rattle.geom_check.specs.Placed.{place_of, points_of, segments_of}
-use Rattle.geom_check.specs.Boundary.{IsSegmentOf}
+use Rattle.geom_check.specs.Boundary.{IsSegmentOf, IsBoundaryNumber}
+use Rattle.geom_check.specs.Domains.{domain_numbers}
 use Rattle.geom_check.specs.Accepted.{IsPlanar, IsAccepted}
+use Rattle.geom_check.specs.declared.limits.TheConstants.{MOST_ROWS, COARSEST, FINEST}
 
 -- points and segments on the grid, the points that bound the sizes around them, and the domains, rising
 pub record PlanarMap : Type 0 where
@@ -25,6 +30,11 @@ pub record PlanarMap : Type 0 where
   pub segments : List Segment
   pub flagged : List Source
   pub domains : List Domain
+
+-- the map of these parts
+abbrev pub map_of : ℤ → List Point → List Segment → List Source → List Domain → PlanarMap
+map_of shift points segments flagged domains =
+    record { shift = shift; points = points; segments = segments; flagged = flagged; domains = domains }
 
 -- a source in front, where the point has a size
 abbrev pub with_source : Point → Option ℕ → List Source → List Source
@@ -45,34 +55,43 @@ size_from shift domain before (row ∷ rows) = size_from shift domain (if row.do
 abbrev pub domain_size : ℤ → List MaterialRow → ℕ → Option ℕ
 domain_size shift rows domain = size_from shift domain None rows
 
--- some segment has the domain on a side
-abbrev pub is_named : List Segment → ℕ → Bool
-is_named segments domain = list_any (λ s. (s.left == domain) || (s.right == domain)) segments
+-- a domain with its greatest size
+abbrev pub domain_at : ℤ → List MaterialRow → ℕ → Domain
+domain_at shift rows number = record { number = number; maxh = domain_size shift rows number }
 
--- a domain in front, where it is named
-abbrev pub with_domain : Bool → Domain → List Domain → List Domain
-with_domain true d ds = d ∷ ds
-with_domain false d ds = ds
-
--- of so many numbers, from `number` on, the domains that segments name
-unfoldable pub domains_from : ℤ → List Segment → List MaterialRow → ℕ → ℕ → List Domain
-domains_from shift segments rows zero number = []
-domains_from shift segments rows (suc count) number =
-    with_domain (is_named segments number) (record { number = number; maxh = domain_size shift rows number }) (domains_from shift segments rows count (number + 1))
-
--- the domains from 1 to 64 that segments name, rising
+-- the domains that segments name, rising, each with its greatest size
 abbrev pub domains_of : ℤ → List Segment → List MaterialRow → List Domain
-domains_of shift segments rows = domains_from shift segments rows 64 1
+domains_of shift segments rows = map (domain_at shift rows) (domain_numbers segments)
+
+-- a length in grid steps: from 1 to the greatest that a size may have
+pub record IsLength (n : ℕ) : Type 0 where
+  pub least : 1 ≤ n
+  pub greatest : n ≤ LONGEST
+
+-- a length that may be absent
+abbrev pub IsLengthIfAny : Option ℕ → Type 0
+IsLengthIfAny None = Unit {0}
+IsLengthIfAny (Some n) = IsLength n
+
+-- a grid point with a size
+pub record IsSource (s : Source) : Type 0 where
+  pub on_grid : IsOnGrid s.at
+  pub length : IsLength s.h
 
 -- what holds of each geometry that was accepted
 pub record IsGeometry (g : PlanarMap) : Type 0 where
   pub planar : IsPlanar g.points g.segments
-  pub shift_least : negsuc 5 ≤ℤ g.shift
-  pub shift_greatest : g.shift ≤ℤ pos 8
+  pub shift_least : COARSEST ≤ℤ g.shift
+  pub shift_greatest : g.shift ≤ℤ FINEST
   pub on_grid : All IsOnGrid g.points
   pub joined : All (IsSegmentOf (length g.points)) g.segments
-  pub few_points : length g.points ≤ 4096
-  pub few_segments : length g.segments ≤ 4096
+  pub few_points : length g.points ≤ MOST_ROWS
+  pub few_segments : length g.segments ≤ MOST_ROWS
+  pub boundary_numbers : All (λ s. IsBoundaryNumber s.bc) g.segments
+  pub segment_sizes : All (λ s. IsLengthIfAny s.maxh) g.segments
+  pub sources : All IsSource g.flagged
+  pub numbers : map (λ d. d.number) g.domains ≡ domain_numbers g.segments
+  pub domain_sizes : All (λ d. IsLengthIfAny d.maxh) g.domains
 
 -- the geometry of an accepted file
 pub record IsGeometryOf (raw : RawGeometry) (g : PlanarMap) : Type 0 where

@@ -1,10 +1,11 @@
 -- What this crate's words mean.
--- Shift: numbers of a file moved to the grid. Placed: rows of a file moved to the grid. Boundary: the edges round a domain.
+-- Shift: numbers of a file moved to the grid. Placed: rows of a file moved to the grid. Boundary: the edges round a domain. Domains: the domains that segments name.
 -- Geometry: what an accepted geometry keeps of its file. Risers, RiserOrder: segments turned upwards, and their order from left to right.
 -- Gaps: the gap to the right of a riser. Strips: the gaps between the edges. Accepted: which geometries are accepted. Refused: why a geometry is refused.
 pub mod Shift
 pub mod Placed
 pub mod Boundary
+pub mod Domains
 pub mod Strips
 pub mod Accepted
 pub mod Refused

@@ -3,22 +3,24 @@
 ghost use Rattle.std.specs.Prelude.{◌≡◌, ◌↔◌, ◌≤◌, IsTrue, length, All, Any, OnOk, IfOk, IfErr};
 ghost use Rattle.grid_geom.specs.Bounds.{IsOnGrid};
 ghost use Rattle.geom_check.specs.Shift.{IsScale};
-ghost use Rattle.geom_check.specs.Placed.{IsReadable, IsReadablePoint, IsReadableMaterial, points_of};
+ghost use Rattle.geom_check.specs.Placed.{IsReadable, IsReadablePoint, points_of};
 ghost use Rattle.geom_check.specs.Boundary.{IsSegmentOf};
-ghost use Rattle.geom_check.specs.Accepted.{NamesDomain, HasPlaces, HasTwoSides, HasTwoEnds, IsPlanar};
-ghost use Rattle.geom_check.specs.Geometry.{IsGeometryOf, is_named, sources_of, domain_size, domains_of};
+ghost use Rattle.geom_check.specs.Accepted.{NamesDomain, ArePlacesDifferent, HasDifferentDomains, HasTwoEnds, IsPlanar};
+ghost use Rattle.geom_check.specs.Geometry.{IsGeometryOf, sources_of};
 ghost use Rattle.geom_check.specs.Refused.{IsRefusal, IsFaultOrMemory};
 
-use crate::boundaries::{MOST_DOMAINS, edges, first_open, no_length, same_sides};
+use crate::boundaries::{edges, first_open, no_length, same_sides};
+use crate::domains::domains;
 use crate::geometry::Geometry;
-use crate::kinds::{Domain, Domains, Segment, Segments, Source, Sources};
+use crate::kinds::{Domains, Segment, Source, Sources};
+use crate::limits::MOST_ROWS;
 use crate::pairs::{tangled, together};
 use crate::placing::{Placed, place};
 use crate::refusal::GeomRefusal;
 use crate::scale::Scale;
 use crate::windings::check_windings;
-use grid_geom::{Point, Points};
-use in2d_reader::{MaterialRow, PointRow, RawGeometry, SegmentRow};
+use grid_geom::Point;
+use in2d_reader::{PointRow, RawGeometry, SegmentRow};
 use std::alloc::{AllocError as OutOfMemory, Global};
 
 /// Whether some segment names a domain.
@@ -30,8 +32,8 @@ fn names_domain(rows: &[SegmentRow]) -> bool
 
 /// The first fault of points, and of segments by themselves.
 fn check_rows(points: &[Point], segments: &[Segment]) -> Result<(), GeomRefusal>
-    ensures places { OnOk result (HasPlaces points.now) }
-    ensures sides { OnOk result (All HasTwoSides segments.now) }
+    ensures places { OnOk result (ArePlacesDifferent points.now) }
+    ensures sides { OnOk result (All HasDifferentDomains segments.now) }
     ensures ends { OnOk result (All HasTwoEnds segments.now) }
     ensures refused { IfErr result (IsFaultOrMemory points.now segments.now) }
 {
@@ -51,7 +53,7 @@ fn check_rows(points: &[Point], segments: &[Segment]) -> Result<(), GeomRefusal>
 fn check_grid(alloc: Global, points: &[Point], segments: &[Segment]) -> Result<(), GeomRefusal>
     requires on_grid { All IsOnGrid points.now }
     requires joined { All (IsSegmentOf (length points.now)) segments.now }
-    requires few { length segments.now ≤ 4096 }
+    requires few { length segments.now ≤ MOST_ROWS }
     ensures planar { OnOk result (IsPlanar points.now segments.now) }
     ensures refused { IfErr result (IsFaultOrMemory points.now segments.now) }
 {
@@ -89,53 +91,6 @@ fn flagged(
         }
     }
     Ok(flagged)
-}
-
-/// The greatest size of a domain: that of the last material row that names it.
-fn domain_size(scale: &Scale, materials: &[MaterialRow], domain: u32) -> Option<u64>
-    requires readable { All IsReadableMaterial materials.now }
-    requires scale { IsScale scale.now }
-    ensures { result ≡ domain_size scale.now.shift materials.now domain }
-{
-    let mut size = None;
-    for row in materials {
-        if row.domain == domain {
-            size = scale.size(row.maxh);
-        }
-    }
-    size
-}
-
-/// Whether some segment has a domain on a side.
-fn is_named(segments: &[Segment], domain: u32) -> bool
-    ensures { result ≡ is_named segments.now domain }
-{
-    segments
-        .iter()
-        .any(|s| s.left == domain || s.right == domain)
-}
-
-/// The domains that segments name, rising.
-fn domains(
-    alloc: Global,
-    scale: &Scale,
-    segments: &[Segment],
-    materials: &[MaterialRow],
-) -> Result<Vec<Domain>, OutOfMemory>
-    requires readable { All IsReadableMaterial materials.now }
-    requires scale { IsScale scale.now }
-    ensures { IfOk result (λ v. v.items ≡ domains_of scale.now.shift segments.now materials.now) }
-{
-    let mut domains = Vec::new(alloc);
-    for number in 1..MOST_DOMAINS + 1 {
-        if is_named(segments, number) {
-            domains.push(Domain {
-                number,
-                maxh: domain_size(scale, materials, number),
-            })?;
-        }
-    }
-    Ok(domains)
 }
 
 /// Checks a geometry and moves it to the grid.

@@ -9,6 +9,8 @@ use Rattle.std.specs.Int.{int_max, int_min}
 use Rattle.std.specs.Ordering.{int_eq}
 use Rattle.grid_geom.specs.declared.Point.{Point}
 use Rattle.grid_geom.specs.declared.Edge.{Edge}
+use Rattle.grid_geom.specs.declared.Bounds.{Bounds}
+use Rattle.grid_geom.specs.Boxes.{DoBoundsMeet}
 use Rattle.grid_geom.specs.Plane.{orient}
 use Rattle.grid_geom.specs.Polygon.{is_outside}
 use Rattle.grid_geom.specs.Sides.{IsBetween, DoSpansMeet, AreBeside, both_left, both_right}
@@ -83,6 +85,10 @@ spans_is u w y z m n {k} {l} ek el em en h = (
 
 pub spans_not : (u w y z : ℤ) {k l : ℤ} → k ≡ int_min u w → l ≡ int_max y z → le_z k l ≡ false → DoSpansMeet u w y z → ⊥
 spans_not u w y z {k} {l} ek el h b = clash (le_z k l) h (true_le k l (subst (λ (v : ℤ). k ≤ℤ v) (sym el) (subst (λ (v : ℤ). v ≤ℤ int_max y z) (sym ek) b.not_after)))
+
+-- the tests of two boxes
+pub meet_test : (a b : Bounds) → le_z a.lo.x b.hi.x ≡ true → le_z b.lo.x a.hi.x ≡ true → le_z a.lo.y b.hi.y ≡ true → (le_z b.lo.y a.hi.y ≡ true → DoBoundsMeet a b) × (DoBoundsMeet a b → le_z b.lo.y a.hi.y ≡ true)
+meet_test a b e f g = (λ h. record { first_column = le_true a.lo.x b.hi.x e; second_column = le_true b.lo.x a.hi.x f; first_row = le_true a.lo.y b.hi.y g; second_row = le_true b.lo.y a.hi.y h }, λ m. true_le b.lo.y a.hi.y m.second_row)
 
 -- the sides of two points by the signs of their orientations
 pub beside_left : (a b c d : Point) (m n : ℤ) → m ≡ orient a b c → n ≡ orient a b d → lt_z (pos 0) m ≡ true → (lt_z (pos 0) n ≡ true → AreBeside a b c d) × (AreBeside a b c d → lt_z (pos 0) n ≡ true)

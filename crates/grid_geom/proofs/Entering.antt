@@ -6,7 +6,7 @@ use lib.Signed.{◌<ℤ◌, ◌≤ℤ◌, le_z}
 use lib.ListN.{length, get_or}
 use mathlib.Core.Bool.{Bool, true, false, ◌&&◌, ◌||◌}
 use mathlib.Core.List.{List, [], ◌∷◌}
-use mathlib.Core.Logic.{inl, inr}
+use mathlib.Core.Logic.{◌⊎◌, inl, inr}
 use mathlib.Core.Path.{◌≡◌, refl, sym, ap, ◌∙◌, subst}
 use native.Mathlib.Omega.{arith}
 use Rattle.std.proofs.lemmas.Int.{ints}
@@ -149,13 +149,20 @@ apart_none a b (o ∷ []) n v h s = absurd (omega (arith, v.enough))
 apart_none a b (o ∷ (u ∷ ws)) n v h s = apart_has_none o u ws a b s.at (strict o u ws v).polygon (directed a b n) (directed b a (λ e. n (sym e))) (to_lists a b o u ws h) s.rational.positive
     (closed_segment a b s.at s.rational.positive s.on) (inside_lines s.at (sides (o ∷ (u ∷ ws))) s.inside.left)
 
-pub apart_enters : (a b : Point) (corners : List Point) → ¬ (a ≡ b) → IsStrictlyConvex corners → (IsApart a b corners → ⊥) → DoesEnter a b corners
-apart_enters a b [] n v h = absurd (omega (arith, v.enough))
-apart_enters a b (o ∷ []) n v h = absurd (omega (arith, v.enough))
-apart_enters a b (o ∷ (u ∷ ws)) n v h = elim (apart_or_common o u ws a b (strict o u ws v) n) [
-  | inl i ↦ absurd (h (from_lists a b o u ws i))
-  | inr m ↦ record { at = m.at; rational = record { positive = m.rational }; on = on_closed a b m.at m.rational m.on; inside = record { left = lines_inside m.at (sides (o ∷ (u ∷ ws))) m.inside } }
+-- one of the two holds
+apart_or_enters : (a b : Point) (corners : List Point) → ¬ (a ≡ b) → IsStrictlyConvex corners → IsApart a b corners ⊎ DoesEnter a b corners
+apart_or_enters a b [] n v = absurd (omega (arith, v.enough))
+apart_or_enters a b (o ∷ []) n v = absurd (omega (arith, v.enough))
+apart_or_enters a b (o ∷ (u ∷ ws)) n v = elim (apart_or_common o u ws a b (strict o u ws v) n) [
+  | inl i ↦ inl (from_lists a b o u ws i)
+  | inr m ↦ inr (record { at = m.at; rational = record { positive = m.rational }; on = on_closed a b m.at m.rational m.on; inside = record { left = lines_inside m.at (sides (o ∷ (u ∷ ws))) m.inside } })
 ]
+
+pub apart_enters : (a b : Point) (corners : List Point) → ¬ (a ≡ b) → IsStrictlyConvex corners → ¬ (IsApart a b corners) → DoesEnter a b corners
+apart_enters a b corners n v h = elim (apart_or_enters a b corners n v) [ inl i ↦ absurd (h i) | inr m ↦ m ]
+
+pub unentered_apart : (a b : Point) (corners : List Point) → ¬ (a ≡ b) → IsStrictlyConvex corners → ¬ (DoesEnter a b corners) → IsApart a b corners
+unentered_apart a b corners n v h = elim (apart_or_enters a b corners n v) [ inl i ↦ i | inr m ↦ absurd (h m) ]
 
 -- the test of apart, by rational points
 pub apart_test : (a b : Point) (corners : List Point) (r : Bool) → ¬ (a ≡ b) → IsStrictlyConvex corners → (r ≡ true → IsApart a b corners) × (IsApart a b corners → r ≡ true) → (r ≡ true → DoesEnter a b corners → ⊥) × (r ≡ false → DoesEnter a b corners)

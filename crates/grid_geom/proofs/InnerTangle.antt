@@ -13,7 +13,7 @@ use Rattle.grid_geom.specs.declared.Point.{Point}
 use Rattle.grid_geom.specs.declared.RatPoint.{RatPoint}
 use Rattle.grid_geom.specs.Plane.{orient}
 use Rattle.grid_geom.specs.Line.{Line, side, whole, through}
-use Rattle.grid_geom.specs.Segment.{IsOnSegment}
+use Rattle.grid_geom.specs.Segment.{IsInnerTo}
 use Rattle.grid_geom.specs.Sides.{IsOnOpen, DoTangle, same_ends, swapped_ends, first_start, first_end, second_start, second_end, crossing}
 use Rattle.grid_geom.proofs.Ring.{E, var, num, ◌⊕◌, ◌⊖◌, ◌⊗◌, ring}
 use Rattle.grid_geom.proofs.Signs.{nn_mul, pos_mul, nn_np_mul, pos_mul_neg, neg_mul_neg, either, ordered, pos_factor, le_cancel, mean_le, mean_ge, zero_factor}
@@ -295,12 +295,6 @@ zero_sum s t x y k e hk hs ht = elim (ordered x (pos 0)) [
     ]
   ]
 ]
-
--- m is inner to the segment a-b
-pub record IsInnerTo (m : RatPoint) (a b : Point) : Type 0 where
-  pub on : IsOnSegment m (whole a) (whole b)
-  pub of_a : pos 0 <ℤ on.of_p
-  pub of_b : pos 0 <ℤ on.of_q
 
 level : (l : Line) (m : RatPoint) (a b : Point) (h : IsInnerTo m a b) → side l m ≡ pos 0 → pos 0 ≡ m.k *ℤ (h.on.of_p *ℤ side l (whole a) +ℤ h.on.of_q *ℤ side l (whole b))
 level l m a b h e = zero (h.on.of_p *ℤ pos 1 +ℤ h.on.of_q *ℤ pos 1) e ∙ side_mean l m (whole a) (whole b) h.on

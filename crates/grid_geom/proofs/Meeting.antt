@@ -175,10 +175,10 @@ squared c d = (d.x -ℤ c.x) *ℤ (d.x -ℤ c.x) +ℤ (d.y -ℤ c.y) *ℤ (d.y -
 abbrev pub squaredE : PointE → PointE → E
 squaredE c d = (d.x ⊖ c.x) ⊗ (d.x ⊖ c.x) ⊕ (d.y ⊖ c.y) ⊗ (d.y ⊖ c.y)
 
-beyond_end : (c d : Point) → side (beyond c d) (whole d) ≡ pos 0
+pub beyond_end : (c d : Point) → side (beyond c d) (whole d) ≡ pos 0
 beyond_end c d = ring (pos 0 ∷ pos 0 ∷ pos 0 ∷ pos 0 ∷ pos 0 ∷ pos 0 ∷ c.x ∷ c.y ∷ d.x ∷ d.y ∷ []) (beyondE C D D) (num (pos 0)) refl
 
-beyond_start : (c d : Point) → side (beyond c d) (whole c) ≡ pos 0 -ℤ squared c d
+pub beyond_start : (c d : Point) → side (beyond c d) (whole c) ≡ pos 0 -ℤ squared c d
 beyond_start c d = ring (pos 0 ∷ pos 0 ∷ pos 0 ∷ pos 0 ∷ pos 0 ∷ pos 0 ∷ c.x ∷ c.y ∷ d.x ∷ d.y ∷ []) (beyondE C D C) (num (pos 0) ⊖ squaredE C D) refl
 
 abbrev pub one_place : RatPoint → Point → Point → List ℤ

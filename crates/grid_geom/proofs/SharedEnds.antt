@@ -13,7 +13,7 @@ use Rattle.grid_geom.specs.declared.Point.{Point}
 use Rattle.grid_geom.specs.declared.RatPoint.{RatPoint}
 use Rattle.grid_geom.specs.Plane.{orient, orient_rat}
 use Rattle.grid_geom.specs.Line.{whole}
-use Rattle.grid_geom.specs.Segment.{IsOnSegment, DoMeet}
+use Rattle.grid_geom.specs.Segment.{IsOnSegment, DoMeet, IsInnerTo}
 use Rattle.grid_geom.specs.Sides.{IsOnOpen, IsOnClosed, AreBeside, both_left, both_right, DoCross, DoTangle, same_ends, swapped_ends, first_start, first_end, second_start, second_end, crossing}
 use Rattle.grid_geom.specs.Sharing.{IsShared, IsAt, IsEnd, ShareAtMostAnEnd, nothing, one_end}
 use Rattle.grid_geom.proofs.Ring.{var, num, ◌⊕◌, ◌⊖◌, ◌⊗◌, ring}
@@ -24,7 +24,7 @@ use Rattle.grid_geom.proofs.Meeting.{separate_or_meet, on_back}
 use Rattle.grid_geom.proofs.Means.{separated_apart}
 use Rattle.grid_geom.proofs.Near.{mix}
 use Rattle.grid_geom.proofs.OnSegment.{on_closed}
-use Rattle.grid_geom.proofs.InnerTangle.{IsInnerTo, inner_back, inner_tangles}
+use Rattle.grid_geom.proofs.InnerTangle.{inner_back, inner_tangles}
 use Rattle.grid_geom.proofs.SharedPoint.{closed_segment, leftward, rightward}
 
 -- ---- a tangle: more than one common end is shared
@@ -36,7 +36,7 @@ is_same p e h = same_place p e (plain h.x_is) (plain h.y_is)
     plain {x} {y} e = omega (arith, ints)
 
 -- a point between the ends is on the closed segment
-open_closed : (p a b : Point) → IsOnOpen p a b → IsOnClosed (whole p) a b
+pub open_closed : (p a b : Point) → IsOnOpen p a b → IsOnClosed (whole p) a b
 open_closed p a b h = record {
   straight = orient_whole a b p ∙ h.straight;
   right_of_least = omega (arith, ints, h.right_of_least);
@@ -45,10 +45,10 @@ open_closed p a b h = record {
   below_greatest = omega (arith, ints, h.below_greatest);
 }
 
-start_closed : (a b : Point) → IsOnClosed (whole a) a b
+pub start_closed : (a b : Point) → IsOnClosed (whole a) a b
 start_closed a b = on_closed a b (whole a) (omega (arith, ints)) (meeting.first_end (whole a) (whole b))
 
-finish_closed : (a b : Point) → IsOnClosed (whole b) a b
+pub finish_closed : (a b : Point) → IsOnClosed (whole b) a b
 finish_closed a b = on_closed a b (whole b) (omega (arith, ints)) (on_back (whole b) (whole b) (whole a) (meeting.first_end (whole b) (whole a)))
 
 shared_at : (p a b c d : Point) → IsOnClosed (whole p) a b → IsOnClosed (whole p) c d → IsShared (whole p) a b c d

@@ -2,8 +2,9 @@
 use lib.IntN.{ℤ, pos, ◌+ℤ◌, ◌*ℤ◌}
 use lib.Signed.{◌<ℤ◌, ◌≤ℤ◌}
 use mathlib.Core.Path.{◌≡◌}
+use Rattle.grid_geom.specs.declared.Point.{Point}
 use Rattle.grid_geom.specs.declared.RatPoint.{RatPoint}
-use Rattle.grid_geom.specs.Line.{Line, side}
+use Rattle.grid_geom.specs.Line.{Line, side, whole}
 
 -- m is on the closed segment of p and q: a mean of the two, by two weights that are not both 0
 pub record IsOnSegment (m p q : RatPoint) : Type 0 where
@@ -14,6 +15,12 @@ pub record IsOnSegment (m p q : RatPoint) : Type 0 where
   pub weighted : pos 0 <ℤ (of_p +ℤ of_q)
   pub mean_x : m.x *ℤ (of_p *ℤ p.k +ℤ of_q *ℤ q.k) ≡ m.k *ℤ (of_p *ℤ p.x +ℤ of_q *ℤ q.x)
   pub mean_y : m.y *ℤ (of_p *ℤ p.k +ℤ of_q *ℤ q.k) ≡ m.k *ℤ (of_p *ℤ p.y +ℤ of_q *ℤ q.y)
+
+-- m is inner to the segment between grid points: a mean of its ends by two weights above 0
+pub record IsInnerTo (m : RatPoint) (a b : Point) : Type 0 where
+  pub on : IsOnSegment m (whole a) (whole b)
+  pub of_a : pos 0 <ℤ on.of_p
+  pub of_b : pos 0 <ℤ on.of_q
 
 -- some rational point is on both closed segments
 pub record DoMeet (p q c d : RatPoint) : Type 0 where

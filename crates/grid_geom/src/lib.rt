@@ -5,12 +5,15 @@
 //! 3. No call here takes memory or refuses, and no number passes 128 bits.
 #![tactic(auto)]
 
+mod boxes;
+pub mod laws;
 mod lists;
 mod orientation;
 mod polygons;
 mod rounding;
 mod segments;
 
+pub use boxes::meet;
 pub use lists::{Element, Points};
 pub use orientation::{on_grid, orient, orient_rat};
 pub use polygons::{apart, double_area, in_open, strictly_convex};
@@ -20,7 +23,7 @@ pub use segments::{on_open, segments_meet, tangle};
 /// The greatest absolute value of a grid point's coordinate.
 pub const GRID: i64 = 1_048_576;
 
-/// The greatest length that a size may have, in grid units: the grid's width.
+/// The greatest length that a size may have, in grid steps: the grid's width.
 pub const LONGEST: u64 = 2_097_152;
 
 /// The greatest absolute value of a rational point's numerators where a call takes one: 2^70.
@@ -32,7 +35,7 @@ pub const GREATEST_DENOMINATOR: i128 = 1_125_899_906_842_624;
 /// The greatest number of corners of which `double_area` sums: 2^20.
 pub const MOST_CORNERS: usize = 1_048_576;
 
-/// A point of the grid, in grid units.
+/// A point of the grid, in grid steps.
 #[derive(Clone, Copy, Debug, PartialEq, Eq, Hash)]
 pub struct Point {
     pub x: i64,

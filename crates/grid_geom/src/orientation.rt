@@ -55,7 +55,7 @@ pub fn turn(a: Point, b: Point, c: Point) -> i64
     product(offset(a.x, b.x), offset(a.y, c.y)) - product(offset(a.y, b.y), offset(a.x, c.x))
 }
 
-/// Twice the signed area of the triangle a, b, c, in square grid units: positive where c is to the left of the way from a to b.
+/// Twice the signed area of the triangle a, b, c, in square grid steps: positive where c is to the left of the way from a to b.
 pub fn orient(a: Point, b: Point, c: Point) -> i128
     requires a_on { IsOnGrid a }
     requires b_on { IsOnGrid b }

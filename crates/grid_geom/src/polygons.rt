@@ -161,7 +161,7 @@ fn swept(a: Point, b: Point) -> i64
     product(a.x, b.y) - product(a.y, b.x)
 }
 
-/// Twice the signed area that the corners go round, by the shoelace rule, in square grid units: positive where they go counterclockwise.
+/// Twice the signed area that the corners go round, by the shoelace rule, in square grid steps: positive where they go counterclockwise.
 pub fn double_area(corners: &[Point]) -> i128
     requires corners_on { All IsOnGrid corners.now }
     requires few { length corners.now ≤ MOST_CORNERS }

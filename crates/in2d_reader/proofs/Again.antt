@@ -200,10 +200,10 @@ point_rooms strict s c last at (text ∷ texts) (row ∷ rows) rest here each e 
 
 -- ---- segments
 
-record AtSegments (strict : Bool) (s c : Draft) : Type 0 where
-  row : (at left : ℕ) (word : Word) → whole_of word 64 ≡ Some left → step strict s at word ≡ new_segment strict c left
-  section : (at : ℕ) → step strict s at materials_word ≡ Ok (at_spot c (InMaterials NoMaterial))
-  finish : (at : ℕ) → finish s at ≡ Ok (whole_raw c)
+pub record AtSegments (strict : Bool) (s c : Draft) : Type 0 where
+  pub row : (at left : ℕ) (word : Word) → whole_of word 64 ≡ Some left → step strict s at word ≡ new_segment strict c left
+  pub section : (at : ℕ) → step strict s at materials_word ≡ Ok (at_spot c (InMaterials NoMaterial))
+  pub finish : (at : ℕ) → finish s at ≡ Ok (whole_raw c)
 
 segment_begins : (strict : Bool) (d : Draft) (at left : ℕ) (word : Word) → whole_of word 64 ≡ Some left → segment_start strict d at word ≡ new_segment strict d left
 unfolding segment_start
@@ -215,11 +215,11 @@ segment_ends : (strict : Bool) (d : Draft) (at : ℕ) → segment_start strict d
 unfolding segment_start
 segment_ends strict d at = rw (same_word materials_word) refl
 
-at_first_segment : (strict : Bool) (d : Draft) → AtSegments strict (at_spot d (InSegments segments.Start)) d
+pub at_first_segment : (strict : Bool) (d : Draft) → AtSegments strict (at_spot d (InSegments segments.Start)) d
 unfolding spot_step segment_step new_segment segment_start finish finish_spot
 at_first_segment strict d = record { row = λ at left word e. segment_begins strict d at left word e; section = λ at. segment_ends strict d at; finish = λ at. refl }
 
-at_next_segment : (strict : Bool) (d : Draft) (row : SegmentRow) → AtSegments strict (at_spot d (InSegments (segments.End row))) (with_segment d row)
+pub at_next_segment : (strict : Bool) (d : Draft) (row : SegmentRow) → AtSegments strict (at_spot d (InSegments (segments.End row))) (with_segment d row)
 unfolding spot_step segment_step new_segment segment_start finish finish_spot
 at_next_segment strict d row = record {
   row = λ at left word e. let none = digits_no_flag word (whole_digits word 64 left e) in rw none (segment_begins strict (with_segment d row) at left word e);

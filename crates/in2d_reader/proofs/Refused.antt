@@ -1,9 +1,9 @@
 -- What is returned, against the grammar.
-use Rattle.std.proofs.Common.{◌≡◌, ℕ, suc, ◌+◌, Bool, true, false, cond, ◌&&◌, ◌⊎◌, inl, inr, List, [], ◌∷◌, ◌++◌, length, Option, Some, None, Result, Ok, Err, refl, sym, ap, subst, ◌∙◌, arith, append_assoc}
+use Rattle.std.proofs.Common.{◌≡◌, ℕ, suc, ◌+◌, ◌<◌, ◌≤◌, Bool, true, false, cond, ◌&&◌, ◌⊎◌, inl, inr, List, [], ◌∷◌, ◌++◌, length, Option, Some, None, Result, Ok, Err, refl, sym, ap, subst, ◌∙◌, arith, append_assoc}
 use Rattle.std.specs.Prelude.{IfOk, IfErr, MatchResult, nat_le}
 use Rattle.std.specs.List.{AllByRecursion}
 use Rattle.std.specs.Str.{bytes_eq}
-use Rattle.std.proofs.lemmas.Bool.{and_parts, and_from, both_ways}
+use Rattle.std.proofs.lemmas.Bool.{and_parts, and_from, both_ways, leb-true, leb-false}
 use Rattle.std.proofs.lemmas.Slice.Eq.{bytes_eq-Decides}
 use Rattle.word_scan.specs.declared.decimals.Dec.{Dec}
 use Rattle.word_scan.specs.Numerals.{whole_of}
@@ -22,9 +22,9 @@ use Rattle.in2d_reader.specs.declared.place.SegmentPlace.TheVariants as segments
 use Rattle.in2d_reader.specs.Words.{Word, head_word, points_word, segments_word, materials_word, two_word, three_word, is_flag, is_name, Given, Nothing, Value, Bad, size_in, number_in, from_one}
 use Rattle.in2d_reader.specs.Steps.{MaterialSpot, NoMaterial, MaterialName, MaterialEnd, Spot, InHead, InPoints, InSegments, InMaterials, Draft, Step, at_spot, with_point, with_segment, with_material, with_number, or_else, ◌>>=◌, head_step, size_after, number_after, sized_point, flagged_segment, sized_material, new_point, point_start, point_flag, point_step, new_segment, segment_start, shape_step, segment_flag, segment_step, material_start, material_flag, material_step, spot_step, step, nothing_read, steps, whole_raw, finish_spot, finish, known_from, with_known, finished, geometry_of}
 use Rattle.in2d_reader.specs.Grammar.{is_known, HasEnds, Within, Fits, Derives}
-use Rattle.in2d_reader.specs.Refusals.{Fails, Gives, IsFront, IsAny, Stops, Passes, Misses, Admits, WantsNumber, StandsForNumber, IsCurved, Refuses}
+use Rattle.in2d_reader.specs.Refusals.{Fails, Gives, IsFront, IsAny, Stops, Passes, IsFull, Points, Segments, StoodBefore, Misses, Admits, WantsNumber, StandsForNumber, IsCurved, Refuses}
 use Rattle.in2d_reader.proofs.Forward.{bind_ok, ok_is, done, derived}
-use Rattle.in2d_reader.proofs.Again.{AllDone, file_read, file_rooms}
+use Rattle.in2d_reader.proofs.Again.{AtPoints, AtSegments, at_first_point, at_next_point, at_first_segment, at_next_segment, AllDone, steps_one, file_read, file_rooms}
 use Rattle.in2d_reader.proofs.Completed.{completed}
 use Rattle.in2d_reader.proofs.Needs.{need, IsInside, IsRowEnd, IsOpen, IsShape, some_none, inside_is_number, inside_goes_on, flag_follows_row, plain_flag, plain_is_flag, flag_on, OpensTo, opens_to, straight, KindFits, KindsFit, spot_kinds}
 use Rattle.in2d_reader.proofs.Limits.{loose_points, loose_segments, within, rooms}
@@ -99,80 +99,112 @@ is_only words (Err e) gives raw d fits = absurd (not_both raw e (sym (found_is_r
 
 -- ---- strict and loose steps
 
--- a refusal by the limits
-abbrev IsLimit : ℕ → In2dRefusal → Type 0
-IsLimit at (Syntax v) = ⊥
-IsLimit at (Number v) = ⊥
-IsLimit at (Curved v) = ⊥
-IsLimit at (TooMany what) = Unit {0}
-IsLimit at (NumberTwice v) = v ≡ at
-IsLimit at (UnknownPoint v) = ⊥
-IsLimit at Memory = ⊥
+-- a refusal by the limits at a word that begins a row of the points, behind these points, or a row of the segments
+abbrev PointLimit : Draft → ℕ → Word → In2dRefusal → Type 0
+PointLimit d at word (Syntax v) = ⊥
+PointLimit d at word (Number v) = ⊥
+PointLimit d at word (Curved v) = ⊥
+PointLimit d at word (TooMany what) = (what ≡ 1) × (nat_le 4096 (length d.points) ≡ true)
+PointLimit d at word (NumberTwice v) = (v ≡ at) × (n : ℕ) × (whole_of word 999999 ≡ Some n) × (nat_le 4096 (length d.points) ≡ false) × (is_known n d.points ≡ true)
+PointLimit d at word (UnknownPoint v) = ⊥
+PointLimit d at word Memory = ⊥
 
--- a strict step is the loose one, or is refused by the limits where the loose one goes on
-data Compared (at : ℕ) (strictly loosely : Step) : Type 0 where
-  Same : strictly ≡ loosely → Compared at strictly loosely
-  Limit : (e : In2dRefusal) (m : Draft) → strictly ≡ Err e → IsLimit at e → loosely ≡ Ok m → Compared at strictly loosely
+abbrev SegmentLimit : Draft → In2dRefusal → Type 0
+SegmentLimit d (Syntax v) = ⊥
+SegmentLimit d (Number v) = ⊥
+SegmentLimit d (Curved v) = ⊥
+SegmentLimit d (TooMany what) = (what ≡ 2) × (nat_le 4096 (length d.segments) ≡ true)
+SegmentLimit d (NumberTwice v) = ⊥
+SegmentLimit d (UnknownPoint v) = ⊥
+SegmentLimit d Memory = ⊥
 
-compare_or : (at : ℕ) (o : Option ℕ) (d : In2dRefusal) (f g : ℕ → Step) → ((n : ℕ) → Compared at (f n) (g n)) → Compared at (or_else o d >>= f) (or_else o d >>= g)
-compare_or at None d f g both = Same refl
-compare_or at (Some n) d f g both = both n
+abbrev NoLimit : In2dRefusal → Type 0
+NoLimit e = ⊥
 
-compare_cond : (at : ℕ) (b : Bool) (x r s : Step) → Compared at r s → Compared at (cond b x r) (cond b x s)
-compare_cond at true x r s both = Same refl
-compare_cond at false x r s both = both
+-- a refusal by the limits at a word behind this spot
+abbrev SpotLimit : Draft → Spot → ℕ → Word → In2dRefusal → Type 0
+SpotLimit d (InHead place) at word = NoLimit
+SpotLimit d (InPoints points.Start) at word = PointLimit d at word
+SpotLimit d (InPoints (points.X n)) at word = NoLimit
+SpotLimit d (InPoints (points.Y n x)) at word = NoLimit
+SpotLimit d (InPoints (points.End row)) at word = PointLimit (with_point d row) at word
+SpotLimit d (InSegments segments.Start) at word = SegmentLimit d
+SpotLimit d (InSegments (segments.Right left)) at word = NoLimit
+SpotLimit d (InSegments (segments.Shape left right)) at word = NoLimit
+SpotLimit d (InSegments (segments.From left right)) at word = NoLimit
+SpotLimit d (InSegments (segments.To left right p)) at word = NoLimit
+SpotLimit d (InSegments (segments.End row)) at word = SegmentLimit (with_segment d row)
+SpotLimit d (InMaterials spot) at word = NoLimit
 
-compare_rooms : (at : ℕ) (few new : Bool) (m : Draft) → Compared at (cond few (Err (TooMany 1)) (cond new (Err (NumberTwice at)) (Ok m))) (Ok m)
-compare_rooms at true new m = Limit (TooMany 1) m refl tt refl
-compare_rooms at false true m = Limit (NumberTwice at) m refl refl refl
-compare_rooms at false false m = Same refl
+-- a strict step is the loose one, or is refused so where the loose one goes on
+data Compared (Limited : In2dRefusal → Type 0) (strictly loosely : Step) : Type 0 where
+  Same : strictly ≡ loosely → Compared Limited strictly loosely
+  Limit : (e : In2dRefusal) (m : Draft) → strictly ≡ Err e → Limited e → loosely ≡ Ok m → Compared Limited strictly loosely
 
-compare_room : (at : ℕ) (few : Bool) (m : Draft) → Compared at (cond few (Err (TooMany 2)) (Ok m)) (Ok m)
-compare_room at true m = Limit (TooMany 2) m refl tt refl
-compare_room at false m = Same refl
+compare_or : (Limited : In2dRefusal → Type 0) (o : Option ℕ) (d : In2dRefusal) (f g : ℕ → Step) → ((n : ℕ) → o ≡ Some n → Compared Limited (f n) (g n)) → Compared Limited (or_else o d >>= f) (or_else o d >>= g)
+compare_or Limited None d f g both = Same refl
+compare_or Limited (Some n) d f g both = both n refl
 
-compare_point : (d : Draft) (at n : ℕ) → Compared at (new_point true d at n) (new_point false d at n)
+compare_cond : (Limited : In2dRefusal → Type 0) (b : Bool) (x r s : Step) → Compared Limited r s → Compared Limited (cond b x r) (cond b x s)
+compare_cond Limited true x r s both = Same refl
+compare_cond Limited false x r s both = both
+
+compare_rooms : (d : Draft) (at n : ℕ) (word : Word) (m : Draft) (full known : Bool) → whole_of word 999999 ≡ Some n → nat_le 4096 (length d.points) ≡ full → is_known n d.points ≡ known
+    → Compared (PointLimit d at word) (cond full (Err (TooMany 1)) (cond known (Err (NumberTwice at)) (Ok m))) (Ok m)
+compare_rooms d at n word m true known is full e = Limit (TooMany 1) m refl (refl, full) refl
+compare_rooms d at n word m false true is room e = Limit (NumberTwice at) m refl (refl, n, is, room, e) refl
+compare_rooms d at n word m false false is room e = Same refl
+
+compare_room : (d m : Draft) (full : Bool) → nat_le 4096 (length d.segments) ≡ full → Compared (SegmentLimit d) (cond full (Err (TooMany 2)) (Ok m)) (Ok m)
+compare_room d m true full = Limit (TooMany 2) m refl (refl, full) refl
+compare_room d m false room = Same refl
+
+compare_point : (d : Draft) (at n : ℕ) (word : Word) → whole_of word 999999 ≡ Some n → Compared (PointLimit d at word) (new_point true d at n) (new_point false d at n)
 unfolding new_point
-compare_point d at n = compare_rooms at (nat_le 4096 (length d.points)) (is_known n d.points) (at_spot d (InPoints (points.X n)))
+compare_point d at n word is = compare_rooms d at n word (at_spot d (InPoints (points.X n))) (nat_le 4096 (length d.points)) (is_known n d.points) is refl refl
 
-compare_segment : (d : Draft) (at left : ℕ) → Compared at (new_segment true d left) (new_segment false d left)
+compare_segment : (d : Draft) (left : ℕ) → Compared (SegmentLimit d) (new_segment true d left) (new_segment false d left)
 unfolding new_segment
-compare_segment d at left = compare_room at (nat_le 4096 (length d.segments)) (at_spot d (InSegments (segments.Right left)))
+compare_segment d left = compare_room d (at_spot d (InSegments (segments.Right left))) (nat_le 4096 (length d.segments)) refl
 
-compare_point_start : (d : Draft) (at : ℕ) (word : Word) → Compared at (point_start true d at word) (point_start false d at word)
+compare_point_start : (d : Draft) (at : ℕ) (word : Word) → Compared (PointLimit d at word) (point_start true d at word) (point_start false d at word)
 unfolding point_start
-compare_point_start d at word = compare_cond at (bytes_eq word segments_word) (Ok (at_spot d (InSegments segments.Start))) _ _ (compare_or at (whole_of word 999999) (Syntax at) (new_point true d at) (new_point false d at) (compare_point d at))
+compare_point_start d at word =
+    compare_cond (PointLimit d at word) (bytes_eq word segments_word) (Ok (at_spot d (InSegments segments.Start))) _ _
+    (compare_or (PointLimit d at word) (whole_of word 999999) (Syntax at) (new_point true d at) (new_point false d at) (λ n is. compare_point d at n word is))
 
-compare_segment_start : (d : Draft) (at : ℕ) (word : Word) → Compared at (segment_start true d at word) (segment_start false d at word)
+compare_segment_start : (d : Draft) (at : ℕ) (word : Word) → Compared (SegmentLimit d) (segment_start true d at word) (segment_start false d at word)
 unfolding segment_start
-compare_segment_start d at word = compare_cond at (bytes_eq word materials_word) (Ok (at_spot d (InMaterials NoMaterial))) _ _ (compare_or at (whole_of word 64) (Syntax at) (new_segment true d) (new_segment false d) (compare_segment d at))
+compare_segment_start d at word =
+    compare_cond (SegmentLimit d) (bytes_eq word materials_word) (Ok (at_spot d (InMaterials NoMaterial))) _ _
+    (compare_or (SegmentLimit d) (whole_of word 64) (Syntax at) (new_segment true d) (new_segment false d) (λ n is. compare_segment d n))
 
-compare_points : (d : Draft) (place : PointPlace) (at : ℕ) (word : Word) → Compared at (point_step true d place at word) (point_step false d place at word)
+compare_points : (d : Draft) (place : PointPlace) (at : ℕ) (word : Word) → Compared (SpotLimit d (InPoints place) at word) (point_step true d place at word) (point_step false d place at word)
 unfolding point_step
 compare_points d points.Start at word = compare_point_start d at word
 compare_points d (points.X n) at word = Same refl
 compare_points d (points.Y n x) at word = Same refl
-compare_points d (points.End row) at word = compare_cond at (is_flag word) (point_flag d row at word) _ _ (compare_point_start (with_point d row) at word)
+compare_points d (points.End row) at word = compare_cond (PointLimit (with_point d row) at word) (is_flag word) (point_flag d row at word) _ _ (compare_point_start (with_point d row) at word)
 
-compare_segments : (d : Draft) (place : SegmentPlace) (at : ℕ) (word : Word) → Compared at (segment_step true d place at word) (segment_step false d place at word)
+compare_segments : (d : Draft) (place : SegmentPlace) (at : ℕ) (word : Word) → Compared (SpotLimit d (InSegments place) at word) (segment_step true d place at word) (segment_step false d place at word)
 unfolding segment_step
 compare_segments d segments.Start at word = compare_segment_start d at word
 compare_segments d (segments.Right left) at word = Same refl
 compare_segments d (segments.Shape left right) at word = Same refl
 compare_segments d (segments.From left right) at word = Same refl
 compare_segments d (segments.To left right p) at word = Same refl
-compare_segments d (segments.End row) at word = compare_cond at (is_flag word) (segment_flag d row at word) _ _ (compare_segment_start (with_segment d row) at word)
+compare_segments d (segments.End row) at word = compare_cond (SegmentLimit (with_segment d row)) (is_flag word) (segment_flag d row at word) _ _ (compare_segment_start (with_segment d row) at word)
 
-compare_spot : (d : Draft) (spot : Spot) (at : ℕ) (word : Word) → Compared at (spot_step true d spot at word) (spot_step false d spot at word)
+compare_spot : (d : Draft) (spot : Spot) (at : ℕ) (word : Word) → Compared (SpotLimit d spot at word) (spot_step true d spot at word) (spot_step false d spot at word)
 unfolding spot_step
 compare_spot d (InHead place) at word = Same refl
 compare_spot d (InPoints place) at word = compare_points d place at word
 compare_spot d (InSegments place) at word = compare_segments d place at word
 compare_spot d (InMaterials spot) at word = Same refl
 
-strict_is_loose : (at : ℕ) (r s : Step) (m : Draft) → Compared at r s → r ≡ Ok m → s ≡ Ok m
-strict_is_loose at r s m (Same same) e = sym same ∙ e
-strict_is_loose at r s m (Limit f n bad limit loose) e = absurd (not_both m f (sym e ∙ bad))
+strict_is_loose : (Limited : In2dRefusal → Type 0) (r s : Step) (m : Draft) → Compared Limited r s → r ≡ Ok m → s ≡ Ok m
+strict_is_loose Limited r s m (Same same) e = sym same ∙ e
+strict_is_loose Limited r s m (Limit f n bad limit loose) e = absurd (not_both m f (sym e ∙ bad))
 
 -- ---- loose refusals stand at their word
 
@@ -288,7 +320,7 @@ unfolding steps
 strict_steps d m at [] e = e
 strict_steps d m at (word ∷ words) e =
     let b = bind_ok (step true d at word) (λ next. steps true next (at + 1) words) m e in
-    let one : step false d at word ≡ Ok b.0 = strict_is_loose at (step true d at word) (step false d at word) b.0 (compare_spot d d.spot at word) b.1 in
+    let one : step false d at word ≡ Ok b.0 = strict_is_loose (SpotLimit d d.spot at word) (step true d at word) (step false d at word) b.0 (compare_spot d d.spot at word) b.1 in
     ap (λ (r : Step). r >>= λ next. steps false next (at + 1) words) one ∙ strict_steps b.0 m (at + 1) words b.2
 
 steps_append : (strict : Bool) (d m : Draft) (at : ℕ) (words rest : List Word) → steps strict d at words ≡ Ok m → steps strict d at (words ++ rest) ≡ steps strict m (at + length words) rest
@@ -361,7 +393,7 @@ no_front strict before word rest m last e read stop all =
 -- ---- what may come
 
 -- a word that may come is read
-admitted_step : (before : List Word) (word : Word) (m : Draft) → steps false nothing_read 1 before ≡ Ok m → Admits before word → (next : Draft) × (step false m (1 + length before) word ≡ Ok next)
+pub admitted_step : (before : List Word) (word : Word) (m : Draft) → steps false nothing_read 1 before ≡ Ok m → Admits before word → (next : Draft) × (step false m (1 + length before) word ≡ Ok next)
 unfolding steps
 admitted_step before word m read admits =
     let all = read_loosely ((before ++ word ∷ []) ++ admits.0) admits.1 admits.2 in
@@ -484,17 +516,86 @@ refusal_of_grammar words at word (NumberTwice v) fault stops = absurd fault
 refusal_of_grammar words at word (UnknownPoint v) fault stops = absurd fault
 refusal_of_grammar words at word Memory fault stops = absurd fault
 
-refusal_of_limits : (words : List Word) (at : ℕ) (word : Word) (e : In2dRefusal) → IsLimit at e → Passes words at word → Refuses words e
-refusal_of_limits words at word (Syntax v) limit passes = absurd limit
-refusal_of_limits words at word (Number v) limit passes = absurd limit
-refusal_of_limits words at word (Curved k) limit passes = absurd limit
-refusal_of_limits words at word (TooMany what) limit passes = (at, word, passes)
-refusal_of_limits words at word (NumberTwice v) limit passes = (word, subst (λ (a : ℕ). Passes words a word) (sym limit) passes)
-refusal_of_limits words at word (UnknownPoint v) limit passes = absurd limit
-refusal_of_limits words at word Memory limit passes = absurd limit
+-- what stands before a word that begins a row: behind points, the word `segments` would end them
+points_before : (before : List Word) (s c : Draft) → AtPoints true s c → steps true nothing_read 1 before ≡ Ok s → (raw : RawGeometry) × Derives (before ++ segments_word ∷ []) raw × (raw.points ≡ c.points) × (length c.points ≤ 4096)
+unfolding steps finish finish_spot
+points_before before s c at read =
+    let on : steps true nothing_read 1 (before ++ segments_word ∷ []) ≡ Ok (at_spot c (InSegments segments.Start)) =
+    steps_append true nothing_read s 1 before (segments_word ∷ []) read ∙ steps_one true s (at_spot c (InSegments segments.Start)) (1 + length before) segments_word [] (at.section (1 + length before)) in
+    let found = strictly_within (before ++ segments_word ∷ []) (whole_raw c) (at_spot c (InSegments segments.Start)) 0 on refl in
+    (whole_raw c, found.0, refl, found.1.points)
+
+-- behind segments, the text could end
+segments_before : (before : List Word) (s c : Draft) → AtSegments true s c → steps true nothing_read 1 before ≡ Ok s → (raw : RawGeometry) × Derives before raw × (raw.segments ≡ c.segments) × (length c.segments ≤ 4096)
+segments_before before s c at read =
+    let found = strictly_within before (whole_raw c) s 0 read (at.finish 0) in
+    (whole_raw c, found.0, refl, found.1.segments)
+
+-- why a word that begins a row is refused by the limits
+abbrev LimitKind : List Word → ℕ → Word → In2dRefusal → Type 0
+LimitKind before at word (Syntax v) = ⊥
+LimitKind before at word (Number v) = ⊥
+LimitKind before at word (Curved v) = ⊥
+LimitKind before at word (TooMany what) = IsFull what before
+LimitKind before at word (NumberTwice v) = (v ≡ at) × StoodBefore before word
+LimitKind before at word (UnknownPoint v) = ⊥
+LimitKind before at word Memory = ⊥
+
+point_limit : (before : List Word) (s c : Draft) (at : ℕ) (word : Word) (e : In2dRefusal) → AtPoints true s c → steps true nothing_read 1 before ≡ Ok s → PointLimit c at word e → LimitKind before at word e
+point_limit before s c at word (Syntax v) here read limit = limit
+point_limit before s c at word (Number v) here read limit = limit
+point_limit before s c at word (Curved v) here read limit = limit
+point_limit before s c at word (TooMany what) here read limit =
+    let p = points_before before s c here read in
+    let least : 4096 ≤ length c.points = leb-true 4096 (length c.points) limit.1 in
+    Points limit.0 p.0 p.1 (ap length p.2 ∙ omega (arith, p.3, least))
+point_limit before s c at word (NumberTwice v) here read limit =
+    let p = points_before before s c here read in
+    let less : length c.points < 4096 = leb-false 4096 (length c.points) limit.3 in (
+      limit.0,
+      record { number = limit.1; is = limit.2; raw = p.0; ended = p.1; known = ap (is_known limit.1) p.2 ∙ limit.4; few = subst (λ (rows : List PointRow). length rows < 4096) (sym p.2) less },
+    )
+point_limit before s c at word (UnknownPoint v) here read limit = limit
+point_limit before s c at word Memory here read limit = limit
+
+segment_limit : (before : List Word) (s c : Draft) (at : ℕ) (word : Word) (e : In2dRefusal) → AtSegments true s c → steps true nothing_read 1 before ≡ Ok s → SegmentLimit c e → LimitKind before at word e
+segment_limit before s c at word (Syntax v) here read limit = limit
+segment_limit before s c at word (Number v) here read limit = limit
+segment_limit before s c at word (Curved v) here read limit = limit
+segment_limit before s c at word (TooMany what) here read limit =
+    let p = segments_before before s c here read in
+    let least : 4096 ≤ length c.segments = leb-true 4096 (length c.segments) limit.1 in
+    Segments limit.0 p.0 p.1 (ap length p.2 ∙ omega (arith, p.3, least))
+segment_limit before s c at word (NumberTwice v) here read limit = absurd limit
+segment_limit before s c at word (UnknownPoint v) here read limit = limit
+segment_limit before s c at word Memory here read limit = limit
+
+limit_kind : (before : List Word) (d : Draft) (spot : Spot) (at : ℕ) (word : Word) (e : In2dRefusal) → steps true nothing_read 1 before ≡ Ok (at_spot d spot) → SpotLimit d spot at word e → LimitKind before at word e
+limit_kind before d (InHead place) at word e read limit = absurd limit
+limit_kind before d (InPoints points.Start) at word e read limit = point_limit before (at_spot d (InPoints points.Start)) d at word e (at_first_point true d) read limit
+limit_kind before d (InPoints (points.X n)) at word e read limit = absurd limit
+limit_kind before d (InPoints (points.Y n x)) at word e read limit = absurd limit
+limit_kind before d (InPoints (points.End row)) at word e read limit = point_limit before (at_spot d (InPoints (points.End row))) (with_point d row) at word e (at_next_point true d row) read limit
+limit_kind before d (InSegments segments.Start) at word e read limit = segment_limit before (at_spot d (InSegments segments.Start)) d at word e (at_first_segment true d) read limit
+limit_kind before d (InSegments (segments.Right left)) at word e read limit = absurd limit
+limit_kind before d (InSegments (segments.Shape left right)) at word e read limit = absurd limit
+limit_kind before d (InSegments (segments.From left right)) at word e read limit = absurd limit
+limit_kind before d (InSegments (segments.To left right p)) at word e read limit = absurd limit
+limit_kind before d (InSegments (segments.End row)) at word e read limit = segment_limit before (at_spot d (InSegments (segments.End row))) (with_segment d row) at word e (at_next_segment true d row) read limit
+limit_kind before d (InMaterials spot) at word e read limit = absurd limit
+
+refusal_of_limits : (words : List Word) (at : ℕ) (word : Word) (e : In2dRefusal) → (p : Passes words at word) → LimitKind p.stops.before at word e → Refuses words e
+refusal_of_limits words at word (Syntax v) passes limit = absurd limit
+refusal_of_limits words at word (Number v) passes limit = absurd limit
+refusal_of_limits words at word (Curved v) passes limit = absurd limit
+refusal_of_limits words at word (TooMany what) passes limit = (at, word, passes, limit)
+refusal_of_limits words at word (NumberTwice v) passes limit = subst (λ (a : ℕ). Refuses words (NumberTwice a)) (sym limit.0) (word, passes, limit.1)
+refusal_of_limits words at word (UnknownPoint v) passes limit = absurd limit
+refusal_of_limits words at word Memory passes limit = absurd limit
 
 refused_by : (words before : List Word) (word : Word) (after : List Word) (m : Draft) (e : In2dRefusal) → words ≡ before ++ (word ∷ after) → steps true nothing_read 1 before ≡ Ok m → step true m (1 + length before) word ≡ Err e
-    → Compared (1 + length before) (step true m (1 + length before) word) (step false m (1 + length before) word) → Refuses words e
+    → Compared (SpotLimit m m.spot (1 + length before) word) (step true m (1 + length before) word) (step false m (1 + length before) word) → Refuses words e
+unfolding limit_stop
 refused_by words before word after m e same read stop (Same equal) =
     let loose : step false m (1 + length before) word ≡ Err e = sym equal ∙ stop in
     let fault : IsFault (1 + length before) word e = subst (λ (r : Step). FaultsAt (1 + length before) word r) loose (spot_faults m m.spot (1 + length before) word) in
@@ -503,7 +604,9 @@ refused_by words before word after m e same read stop (Same equal) =
 refused_by words before word after m e same read stop (Limit f next bad limit loose) =
     let same_refusal : f ≡ e = err_is f e (sym bad ∙ stop) in
     let k : 1 + length before ≡ length before + 1 = omega arith in
-    refusal_of_limits words (length before + 1) word e (subst (λ (a : ℕ). IsLimit a e) k (subst (λ (r : In2dRefusal). IsLimit (1 + length before) r) same_refusal limit)) (limit_stop words before word after m next e same read stop loose)
+    let kind : LimitKind before (1 + length before) word f = limit_kind before m m.spot (1 + length before) word f read limit in
+    refusal_of_limits words (length before + 1) word e (limit_stop words before word after m next e same read stop loose)
+    (subst (λ (a : ℕ). LimitKind before a word e) k (subst (λ (r : In2dRefusal). LimitKind before (1 + length before) word r) same_refusal kind))
   where
     err_is : (f e : In2dRefusal) → refused {A = Draft} f ≡ refused e → f ≡ e
     err_is f e h = cc

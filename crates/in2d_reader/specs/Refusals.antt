@@ -4,20 +4,24 @@
 -- Gives, Takes    a call returned what the reading gives, unless memory ran out
 -- IsFront         words that a derived text begins with
 -- Stops           the first word that doesn't fit
+-- Passes          a word that no text within the limits goes on with
+-- IsFull          as many rows of a kind as there may be
+-- StoodBefore     the number of a point that has stood before
 -- Misses          a word is missing at the end
 -- IsUnknown       the first segment that names a point that is not there
 -- WantsNumber     only a number may come next; TakesFlag, a flag may
 -- StandsForNumber a word in the place of a number, or a flag in the place of one
 -- IsCurved        a segment that is curved
--- Refuses         words that are refused so; IsOfGrammar, a refusal by the grammar
-use Rattle.std.specs.Prelude.{◌≡◌, ◌⊎◌, ℕ, ◌+◌, true, Some, List, [], ◌∷◌, ◌++◌, length, Result, Ok, Err}
+-- Refuses         words that are refused so
+use Rattle.std.specs.Prelude.{◌≡◌, ◌⊎◌, ℕ, ◌+◌, ◌<◌, true, Some, List, [], ◌∷◌, ◌++◌, length, Result, Ok, Err}
 use Rattle.std.specs.List.{AllByRecursion}
 use Rattle.word_scan.specs.declared.decimals.Dec.{Dec}
+use Rattle.word_scan.specs.Numerals.{whole_of}
 use Rattle.word_scan.specs.Decimals.{decimal_of}
 use Rattle.in2d_reader.specs.declared.geometry.SegmentRow.{SegmentRow}
 use Rattle.in2d_reader.specs.declared.geometry.RawGeometry.{RawGeometry}
-use Rattle.in2d_reader.specs.Words.{Word, two_word, three_word, is_flag}
-use Rattle.in2d_reader.specs.Grammar.{Derives, Within, HasEnds}
+use Rattle.in2d_reader.specs.Words.{Word, segments_word, two_word, three_word, is_flag}
+use Rattle.in2d_reader.specs.Grammar.{is_known, Derives, Within, HasEnds}
 use Rattle.in2d_reader.specs.declared.refusal.In2dRefusal.{In2dRefusal}
 use Rattle.in2d_reader.specs.declared.refusal.In2dRefusal.TheVariants.{Syntax, Number, Curved, TooMany, NumberTwice, UnknownPoint, Memory}
 
@@ -67,6 +71,22 @@ pub record Passes (words : List Word) (at : ℕ) (word : Word) : Type 0 where
   pub stops : Stops Within words at word
   pub derived : IsFront IsAny (stops.before ++ word ∷ [])
 
+-- as many points as there may be stand before the word: with the word `segments` in its place these were the points of the text;
+-- or as many segments: without the word these were the segments of the text
+pub data IsFull (what : ℕ) (before : List Word) : Type 0 where
+  Points : what ≡ 1 → (raw : RawGeometry) → Derives (before ++ segments_word ∷ []) raw → length raw.points ≡ 4096 → IsFull what before
+  Segments : what ≡ 2 → (raw : RawGeometry) → Derives before raw → length raw.segments ≡ 4096 → IsFull what before
+
+-- the word is the number of a point that stands before it, and there may be one more: with the word `segments` in its place
+-- these were the points of the text
+pub record StoodBefore (before : List Word) (word : Word) : Type 0 where
+  pub number : ℕ
+  pub is : whole_of word 999999 ≡ Some number
+  pub raw : RawGeometry
+  pub ended : Derives (before ++ segments_word ∷ []) raw
+  pub known : is_known number raw.points ≡ true
+  pub few : length raw.points < 4096
+
 -- the words are the front of a derived text within the limits, and are not derived themselves
 pub record Misses (words : List Word) (at : ℕ) : Type 0 where
   pub place : at ≡ length words + 1
@@ -110,22 +130,14 @@ pub record IsCurved (words : List Word) (k : ℕ) : Type 0 where
   pub last : k ≡ length raw.segments
 
 -- the first word that doesn't fit is refused by Number where it stands for a number, by Curved where this is a `3`,
--- and by Syntax where it stands for none; a word that is missing at the end is refused by Syntax
+-- and by Syntax where it stands for none; a word that is missing at the end is refused by Syntax.
+-- A word that begins a row past a limit is refused by TooMany, and else one whose number has stood before by NumberTwice.
+-- A derived text within the limits is refused by UnknownPoint, if it is.
 abbrev pub Refuses : List Word → In2dRefusal → Type 0
 Refuses words (Syntax at) = ((word : Word) × (s : Stops IsAny words at word) × (StandsForNumber s.before word → ⊥)) ⊎ Misses words at
 Refuses words (Number at) = (word : Word) × (s : Stops IsAny words at word) × StandsForNumber s.before word × (word ≡ three_word → ⊥)
 Refuses words (Curved segment) = IsCurved words segment
-Refuses words (TooMany what) = (at : ℕ) × (word : Word) × Passes words at word
-Refuses words (NumberTwice at) = (word : Word) × Passes words at word
+Refuses words (TooMany what) = (at : ℕ) × (word : Word) × (p : Passes words at word) × IsFull what p.stops.before
+Refuses words (NumberTwice at) = (word : Word) × (p : Passes words at word) × StoodBefore p.stops.before word
 Refuses words (UnknownPoint segment) = (raw : RawGeometry) × Derives words raw × Within raw × IsUnknown raw segment
 Refuses words Memory = Unit {0}
-
--- a refusal by the grammar, and not by a limit, a point or memory
-abbrev pub IsOfGrammar : In2dRefusal → Type 0
-IsOfGrammar (Syntax at) = Unit {0}
-IsOfGrammar (Number at) = Unit {0}
-IsOfGrammar (Curved segment) = Unit {0}
-IsOfGrammar (TooMany what) = ⊥
-IsOfGrammar (NumberTwice at) = ⊥
-IsOfGrammar (UnknownPoint segment) = ⊥
-IsOfGrammar Memory = ⊥

@@ -6,6 +6,7 @@
 #![tactic(auto)]
 
 mod geometry;
+pub mod laws;
 mod place;
 mod printing;
 mod reader;

@@ -1,9 +1,9 @@
 //! Reading a geometry.
 
-ghost use Rattle.std.specs.Prelude.{◌≡◌, ◌⊎◌, IfOk, IfErr, MatchResult};
+ghost use Rattle.std.specs.Prelude.{◌≡◌, ◌≢◌, ◌⊎◌, IfOk, IfErr, MatchResult};
 ghost use Rattle.word_scan.specs.Scan.{words_of};
 ghost use Rattle.in2d_reader.specs.Normal.{CanPrint};
-ghost use Rattle.in2d_reader.specs.Refusals.{Gives, Refuses, IsOfGrammar};
+ghost use Rattle.in2d_reader.specs.Refusals.{Gives, Refuses};
 ghost use Rattle.in2d_reader.specs.Grammar.{Derives, Fits};
 ghost use Rattle.in2d_reader.specs.declared.geometry.RawGeometry.{RawGeometry};
 ghost use Rattle.in2d_reader.specs.declared.refusal.In2dRefusal.{In2dRefusal};
@@ -24,13 +24,16 @@ pub fn read_in2d(alloc: Global, bytes: &[u8]) -> Result<RawGeometry, In2dRefusal
     ensures printable { IfOk result CanPrint }
 
     // Each such text is read, unless memory runs out, and has no other value.
-    ensures only { (raw : RawGeometry) → Derives (words_of bytes.now) raw → Fits raw → MatchResult result (λ read. read ≡ raw) (λ e. e ≡ In2dRefusal.Memory) }
+    ensures only { (raw : RawGeometry) → Derives (words_of bytes.now) raw → Fits raw
+        → MatchResult result (λ read. read ≡ raw) (λ e. e ≡ In2dRefusal.Memory) }
 
-    // A refusal stands at the first word that doesn't fit, and its kind says what this word stands for.
+    // A refusal stands at the first word that doesn't fit, and its kind says what this word stands for,
+    // which limit it passes, or which point is not there.
     ensures refused { IfErr result (Refuses (words_of bytes.now)) }
 
-    // Each text that the grammar refuses is refused so, unless memory runs out, and has no other refusal.
-    ensures refused_only { (f : In2dRefusal) → IsOfGrammar f → Refuses (words_of bytes.now) f → MatchResult result (λ read. ⊥) (λ e. (e ≡ f) ⊎ (e ≡ In2dRefusal.Memory)) }
+    // Each text that is refused so is refused, unless memory runs out, and has no other refusal.
+    ensures refused_only { (f : In2dRefusal) → f ≢ In2dRefusal.Memory → Refuses (words_of bytes.now) f
+        → MatchResult result (λ read. ⊥) (λ e. (e ≡ f) ⊎ (e ≡ In2dRefusal.Memory)) }
 
     // What is returned is what reading word by word gives.
     ensures exact { Gives (λ raw. raw) result (geometry_of (words_of bytes.now)) }

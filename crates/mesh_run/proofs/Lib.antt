@@ -1,8 +1,9 @@
-pub mod Places
+pub mod SamePoints
 pub mod Listed
 pub mod Opened
 pub mod Bounded
 pub mod Ranges
 pub mod Named
-pub mod DomainNumbers
 pub mod Ordered
+-- Openings whose segments are cut.
+pub mod CutFronts

@@ -9,7 +9,8 @@ use Rattle.size_field.specs.declared.pieces.Piece.{Piece}
 use Rattle.mesh_run.specs.Boundary.{IsPieceOf, whole_pieces, whole_pieces_from}
 use Rattle.mesh_run.specs.Mesh.{NamesItsPoints}
 use Rattle.mesh_run.specs.Opening.{unmeshed_run}
-use Rattle.mesh_run.specs.Whole.{unmeshed_runs, domain_numbers}
+use Rattle.geom_check.specs.Domains.{domain_numbers}
+use Rattle.mesh_run.specs.Whole.{unmeshed_runs}
 
 whole_within : (n : ℕ) (points : List Point) (all segments : List Segment) → 1 ≤ n → n + length segments ≤ length all + 1
     → All (IsPieceOf all) (whole_pieces_from n points segments)

@@ -4,7 +4,6 @@ use Rattle.std.specs.List.{flat_map, list_any, position_or_len}
 use Rattle.grid_geom.specs.declared.Point.{Point}
 use Rattle.grid_geom.specs.declared.Edge.{Edge}
 use Rattle.grid_geom.specs.Closed.{same_point}
-use Rattle.mesh_run.specs.declared.numbering.Place.{Place}
 
 -- whether the point is one of the list
 abbrev pub is_among : List Point → Point → Bool
@@ -25,7 +24,3 @@ ends_of edges = flat_map (λ e. e.a ∷ e.b ∷ []) edges
 -- the number of the point in a list of different points: its place, counted from 1
 abbrev pub number_in : List Point → Point → ℕ
 number_in ps p = position_or_len (same_point p) ps + 1
-
--- the point with these coordinates
-abbrev pub point_of : Place → Point
-point_of c = record { x = c.x; y = c.y }

@@ -1,33 +1,17 @@
 -- The run of all domains.
-use Rattle.std.specs.Prelude.{ℕ, ℤ, ◌<◌, Bool, true, false, nat_eq, List, [], ◌∷◌, map, fold, if◌then◌else◌}
-use Rattle.std.specs.List.{flat_map, list_any, All}
-use Rattle.std.specs.Ordering.{nat_cmp}
-use Rattle.std.specs.BTreeSet.{insert_key}
+use Rattle.std.specs.Prelude.{ℤ, Bool, true, false, List, map, if◌then◌else◌}
+use Rattle.std.specs.List.{list_any}
 use Rattle.geom_check.specs.declared.kinds.Segment.{Segment}
+use Rattle.geom_check.specs.Domains.{domain_numbers}
 use Rattle.size_field.specs.declared.pieces.Piece.{Piece}
 use Rattle.mesh_run.specs.declared.End.{End}
 use Rattle.mesh_run.specs.declared.End.TheVariants.{Done, Stuck, Stopped}
 use Rattle.mesh_run.specs.declared.Options.{Options}
 use Rattle.mesh_run.specs.declared.WholeRun.{WholeRun}
 use Rattle.mesh_run.specs.declared.domain_run.DomainRun.{DomainRun}
+use Rattle.geom_check.specs.Geometry.{PlanarMap}
+use Rattle.size_field.specs.Cutting.{pieces_of}
 use Rattle.mesh_run.specs.Opening.{unmeshed_run}
-
--- the numbers on the two sides of each segment
-abbrev pub sides_of : List Segment → List ℕ
-sides_of segments = flat_map (λ s. s.left ∷ s.right ∷ []) segments
-
--- the rising numbers, with d at its place unless it is 0 or there
-abbrev pub with_domain : List ℕ → ℕ → List ℕ
-with_domain ds d = if nat_eq d 0 then ds else insert_key nat_cmp ds d
-
--- the numbers above 0 on the sides of segments, each once, rising
-abbrev pub domain_numbers : List Segment → List ℕ
-domain_numbers segments = fold with_domain [] (sides_of segments)
-
--- each number is below those after it
-abbrev pub IsRising : List ℕ → Type 0
-IsRising [] = Unit {0}
-IsRising (d ∷ ds) = All (λ e. d < e) ds × IsRising ds
 
 abbrev pub is_stopped : End → Bool
 is_stopped Stopped = true
@@ -56,3 +40,7 @@ unmeshed_whole shift options pieces segments = record {
   domains = unmeshed_runs segments pieces;
   end = end_of_all (unmeshed_runs segments pieces);
 }
+
+-- the whole run of an accepted geometry where no rule applies: its segments are cut by the options' sizes and its own
+abbrev pub unmeshed_geometry : PlanarMap → Options → WholeRun
+unmeshed_geometry g options = unmeshed_whole g.shift options (pieces_of g options.greatest options.grading) g.segments

@@ -1,7 +1,7 @@
 //! The laws of an opening, each as the contract of a function that does nothing.
 
-ghost use Rattle.std.specs.Prelude.{◌≡◌, ◌<◌, ◌&&◌, ℕ, List, All, length, nat_eq, not, true};
-ghost use Rattle.std.specs.List.{list_any, IsDistinct};
+ghost use Rattle.std.specs.Prelude.{◌≡◌, ◌<◌, ℕ, List, All, length, true};
+ghost use Rattle.std.specs.List.{IsDistinct};
 ghost use Rattle.grid_geom.specs.Bounds.{IsOnGrid};
 ghost use Rattle.grid_geom.specs.Closed.{same_point};
 ghost use Rattle.grid_geom.specs.declared.Point.{Point};
@@ -9,11 +9,15 @@ ghost use Rattle.grid_geom.specs.declared.RatPoint.{RatPoint};
 ghost use Rattle.grid_geom.specs.Winding.{wind};
 ghost use Rattle.geom_check.specs.declared.kinds.Segment.{Segment};
 ghost use Rattle.geom_check.specs.Boundary.{boundary, point_at};
+ghost use Rattle.grid_geom.specs.Plane.{IsRational};
+ghost use Rattle.geom_check.specs.Geometry.{PlanarMap, IsGeometry};
 ghost use Rattle.size_field.specs.declared.pieces.Piece.{Piece};
+ghost use Rattle.size_field.specs.Cutting.{pieces_of};
+ghost use Rattle.size_field.specs.Parts.{AreUntangled, AreOneOrApart};
 ghost use Rattle.mesh_run.specs.Boundary.{piece_boundary, whole_pieces, IsNumberTo, IsPieceOnGrid};
 ghost use Rattle.mesh_run.specs.Mesh.{mesh_of_run, RowJoins};
 ghost use Rattle.mesh_run.specs.Numbering.{by_first_occurrence, is_among, number_in};
-ghost use Rattle.mesh_run.specs.Whole.{domain_numbers, sides_of, unmeshed_runs, IsRising};
+ghost use Rattle.mesh_run.specs.Whole.{unmeshed_runs};
 ghost use Rattle.mesh_run.specs.declared.WholeRun.{WholeRun};
 ghost use Rattle.mesh_run.specs.Opening.{front_edges, mesh_points, unmeshed_run, FrontJoins};
 
@@ -31,6 +35,18 @@ pub fn law_uncut()
     ensures runs { (points : List Point) (segments : List Segment) → All (λ r. front_edges r ≡ boundary points r.domain segments) (unmeshed_runs segments (whole_pieces points segments)) }
 {}
 
+/// Where the segments of an accepted geometry are cut, the front with which a domain begins winds at
+/// every rational point as the domain's boundary in segments does. Its lines have two ends and don't
+/// tangle; and of the lines of two domains each two are the same, reversed, or don't tangle.
+pub fn law_cut()
+    ensures winds { (g : PlanarMap) (greatest grading d : ℕ) (q : RatPoint) → IsGeometry g → IsRational q →
+        wind q (front_edges (unmeshed_run d g.segments (pieces_of g greatest grading))) ≡ wind q (boundary g.points d g.segments) }
+    ensures one { (g : PlanarMap) (greatest grading d : ℕ) → IsGeometry g →
+        AreUntangled (front_edges (unmeshed_run d g.segments (pieces_of g greatest grading))) }
+    ensures two { (g : PlanarMap) (greatest grading c d : ℕ) → IsGeometry g →
+        AreOneOrApart (front_edges (unmeshed_run c g.segments (pieces_of g greatest grading))) (front_edges (unmeshed_run d g.segments (pieces_of g greatest grading))) }
+{}
+
 /// Points by first occurrence are different points, the same ones that were given, and each is the one with its number. The one that occurs first has the smaller number.
 pub fn law_numbering()
     ensures different { (ps : List Point) → IsDistinct same_point (by_first_occurrence ps) }
@@ -45,10 +61,4 @@ pub fn law_ranges()
     ensures front { (d : ℕ) (segments : List Segment) (pieces : List Piece) → All (FrontJoins (length (unmeshed_run d segments pieces).points)) (unmeshed_run d segments pieces).front }
     ensures rows { (w : WholeRun) (segments : List Segment) → All (RowJoins (length (mesh_of_run w segments).points)) (mesh_of_run w segments).edges }
     ensures on_grid { (pieces : List Piece) → All IsPieceOnGrid pieces → All IsOnGrid (mesh_points pieces) }
-{}
-
-/// The numbers of the domains rise, and are those above 0 that stand on a side of a segment.
-pub fn law_domains()
-    ensures rising { (segments : List Segment) → IsRising (domain_numbers segments) }
-    ensures named { (segments : List Segment) (d : ℕ) → list_any (nat_eq d) (domain_numbers segments) ≡ (not (nat_eq d 0) && list_any (nat_eq d) (sides_of segments)) }
 {}

@@ -1,55 +1,25 @@
 // Points numbered from 1 by first occurrence.
-ghost use Rattle.std.specs.Prelude.{◌≡◌, ℕ, ◌+◌, ◌<◌, ◌≤◌, ◌^◌, List, [], length, map, filter, fold, IfOk, OnOk, OnErr};
-ghost use Rattle.mesh_run.specs.Numbering.{by_first_occurrence, ends_of, is_among, number_in, point_of, with_point};
+ghost use Rattle.std.specs.Prelude.{◌≡◌, ℕ, ◌+◌, ◌<◌, ◌≤◌, ◌^◌, [], length, IfOk, OnOk};
+ghost use Rattle.mesh_run.specs.Numbering.{by_first_occurrence, ends_of, is_among, number_in, with_point};
 
 use grid_geom::{Edge, Point};
 use indexmap::IndexSet;
 use std::alloc::{AllocError as OutOfMemory, Global};
 use std::marker::Model;
 
-/// The coordinates of a point, as a key to look up.
-#[derive(Clone, Copy, PartialEq, Eq, Hash)]
-struct Place {
-    x: i64,
-    y: i64,
-}
-
-fn place_of(point: Point) -> Place
-    ensures { result ≡ record { x = point.x; y = point.y } }
-{
-    Place {
-        x: point.x,
-        y: point.y,
-    }
-}
-
-/// The points at these places.
-fn points_at(alloc: Global, places: &[Place]) -> Result<Vec<Point>, OutOfMemory>
-    ensures { IfOk result (λ v. v.items ≡ map point_of places.now) }
-{
-    places
-        .iter()
-        .map(|place| Point {
-            x: place.x,
-            y: place.y,
-        })
-        .collect(alloc)
-}
-
 /// Different points, each with its place in the list, counted from 1, as its number.
 #[derive(Drop)]
 pub struct Numbering {
-    places: IndexSet<Place>,
+    points: IndexSet<Point>,
 }
 
 impl Model for Numbering {
-    ghost use Rattle.std.specs.Prelude.{List, map};
+    ghost use Rattle.std.specs.Prelude.{List};
     ghost use Rattle.grid_geom.specs.declared.Point.{Point as GridPoint};
-    ghost use Rattle.mesh_run.specs.Numbering.{point_of};
 
     ghost Value = { List GridPoint };
 
-    ghost view = { λ n. map point_of n.places.keys };
+    ghost view = { λ n. n.points.keys };
 }
 
 impl Numbering {
@@ -58,7 +28,7 @@ impl Numbering {
         ensures { result ≡ [] }
     {
         Numbering {
-            places: IndexSet::new(alloc),
+            points: IndexSet::new(alloc),
         }
     }
 
@@ -66,7 +36,7 @@ impl Numbering {
     pub fn add(&mut self, point: Point) -> Result<(), OutOfMemory>
         ensures { OnOk result (self.new ≡ with_point self.old point) }
     {
-        self.places.insert(place_of(point))?;
+        self.points.insert(point)?;
         Ok(())
     }
 
@@ -74,8 +44,8 @@ impl Numbering {
     pub fn number_of(&self, point: Point) -> u64
         ensures { result ≡ number_in self.now point }
     {
-        let count = self.places.len();
-        match self.places.get_index_of(&place_of(point)) {
+        let count = self.points.len();
+        match self.points.get_index_of(&point) {
             Some(index) => index as u64 + 1,
             None => count as u64 + 1,
         }
@@ -85,21 +55,22 @@ impl Numbering {
     pub fn has(&self, point: Point) -> bool
         ensures { result ≡ is_among self.now point }
     {
-        self.places.contains(&place_of(point))
+        self.points.contains(&point)
     }
+
     /// How many points are listed.
     pub fn count(&self) -> usize
         ensures count { result ≡ length self.now }
         ensures small { result < 2 ^ 63 }
     {
-        self.places.len()
+        self.points.len()
     }
 
     /// The points by their numbers.
     pub fn points(&self, alloc: Global) -> Result<Vec<Point>, OutOfMemory>
         ensures { IfOk result (λ v. v.items ≡ self.now) }
     {
-        points_at(alloc, self.places.as_slice())
+        self.points.as_slice().to_vec(alloc)
     }
 }
 

@@ -1,38 +1,16 @@
 // The run of all domains, where no rule applies.
-ghost use Rattle.std.specs.Prelude.{◌≡◌, length, IfOk, OnOk, All};
+ghost use Rattle.std.specs.Prelude.{◌≡◌, IfOk, All};
 ghost use Rattle.std.specs.List.{list_any};
+ghost use Rattle.size_field.specs.Size.{AreLimits};
 ghost use Rattle.mesh_run.specs.Boundary.{IsPieceOf};
 ghost use Rattle.mesh_run.specs.Mesh.{NamesItsPoints};
-ghost use Rattle.mesh_run.specs.Whole.{domain_numbers, end_of_all, is_stopped, is_stuck, unmeshed_runs, unmeshed_whole, with_domain};
+ghost use Rattle.mesh_run.specs.Whole.{end_of_all, is_stopped, is_stuck, unmeshed_geometry, unmeshed_runs, unmeshed_whole};
 
 use super::opening::{number_mesh, open_domain};
 use super::{DomainRun, DomainRuns, End, Options, WholeRun};
-use geom_check::Segment;
-use size_field::{Piece, Pieces};
+use geom_check::{Geometry, Segment, domain_numbers};
+use size_field::{Piece, Pieces, cut};
 use std::alloc::{AllocError as OutOfMemory, Global};
-use std::collections::BTreeSet;
-
-/// Adds the number of a domain, unless it is 0, which stands for the outside.
-fn add_domain(numbers: &mut BTreeSet<u32>, number: u32) -> Result<(), OutOfMemory>
-    ensures { OnOk result (numbers.new.keys ≡ with_domain numbers.old.keys number) }
-{
-    if number != 0 {
-        numbers.insert(number)?;
-    }
-    Ok(())
-}
-
-/// The numbers above 0 on the sides of segments, rising.
-fn number_domains(alloc: Global, segments: &[Segment]) -> Result<Vec<u32>, OutOfMemory>
-    ensures { IfOk result (λ v. v.items ≡ domain_numbers segments.now) }
-{
-    let mut numbers = BTreeSet::new(alloc);
-    for segment in segments {
-        add_domain(&mut numbers, segment.left)?;
-        add_domain(&mut numbers, segment.right)?;
-    }
-    numbers.into_iter().collect(alloc)
-}
 
 /// Whether one of the runs was stopped.
 fn has_stopped(runs: &[DomainRun]) -> bool
@@ -71,7 +49,7 @@ fn open_domains(
     ensures { IfOk result (λ v. v.items ≡ unmeshed_runs segments.now pieces.now) }
 {
     let mesh = number_mesh(alloc, pieces)?.points(alloc)?;
-    let numbers = number_domains(alloc, segments)?;
+    let numbers = domain_numbers(alloc, segments)?;
     let mut runs = Vec::new(alloc);
     for domain in &numbers {
         runs.push(open_domain(alloc, *domain, segments, pieces, &mesh)?)?;
@@ -104,4 +82,15 @@ pub fn open_all(
         domains: DomainRuns::from_vec(runs),
         end,
     })
+}
+
+/// The whole run of an accepted geometry where no rule is live: its segments are cut into pieces by
+/// the options' sizes and its own, and each domain's run is its opening state.
+pub fn open_geometry(alloc: Global, g: &Geometry, options: Options) -> Result<WholeRun, OutOfMemory>
+    requires { AreLimits options.greatest options.grading }
+    ensures run { IfOk result (λ w. w ≡ unmeshed_geometry g.now options) }
+    ensures names { IfOk result (λ w. All NamesItsPoints w.domains) }
+{
+    let pieces = cut(alloc, g, options.greatest, options.grading)?;
+    open_all(alloc, g.shift(), options, pieces, g.segments())
 }

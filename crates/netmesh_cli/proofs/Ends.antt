@@ -11,15 +11,16 @@ use Rattle.in2d_reader.specs.declared.geometry.SegmentRow.{SegmentRow}
 use Rattle.in2d_reader.specs.declared.geometry.RawGeometry.{RawGeometry}
 use Rattle.geom_check.specs.declared.kinds.Segment.{Segment}
 use Rattle.geom_check.specs.Accepted.{NamesDomain}
-use Rattle.geom_check.specs.Boundary.{boundary, edge_of, reversed, with_edge}
+use Rattle.geom_check.specs.Boundary.{boundary, edge_of, back, with_edge}
 use Rattle.geom_check.specs.Placed.{segments_from}
 use Rattle.geom_check.specs.Geometry.{PlanarMap, IsGeometryOf}
 use Rattle.mesh_run.specs.declared.End.TheVariants.{Done, Stuck, Stopped}
 use Rattle.mesh_run.specs.Boundary.{whole_pieces}
 use Rattle.mesh_run.specs.Opening.{end_of_front}
-use Rattle.mesh_run.specs.Whole.{domain_numbers, sides_of, is_stopped, is_stuck}
+use Rattle.geom_check.specs.Domains.{domain_numbers, sides_of}
+use Rattle.mesh_run.specs.Whole.{is_stopped, is_stuck}
 use Rattle.mesh_run.proofs.Bounded.{front_is_boundary, whole_boundary}
-use Rattle.mesh_run.proofs.DomainNumbers.{numbers_named}
+use Rattle.geom_check.proofs.DomainNumbers.{numbers_named}
 use Rattle.netmesh_cli.specs.Accepted.{run_of}
 use Rattle.netmesh_cli.proofs.Works.{run_in}
 
@@ -38,7 +39,7 @@ edge_of_side e f false false false false p q rest more later named none = later 
 
 some_edge : (points : List Point) (d : ℕ) (ss : List Segment) → list_any (nat_eq d) (sides_of ss) ≡ true → boundary points d ss ≢ []
 some_edge points d [] named none = absurd (cc)
-some_edge points d (s ∷ ss) named none = edge_of_side (edge_of points s) (reversed (edge_of points s)) (s.left == d) (s.right == d) (nat_eq d s.left) (nat_eq d s.right) (same_test d s.left) (same_test d s.right) (boundary points d ss) (list_any (nat_eq d) (sides_of ss)) (some_edge points d ss) named none
+some_edge points d (s ∷ ss) named none = edge_of_side (edge_of points s) (back (edge_of points s)) (s.left == d) (s.right == d) (nat_eq d s.left) (nat_eq d s.right) (same_test d s.left) (same_test d s.right) (boundary points d ss) (list_any (nat_eq d) (sides_of ss)) (some_edge points d ss) named none
 
 -- ---- the ends of domains
 

@@ -45,7 +45,7 @@ all_points (row ∷ rows) are = All-cons IsReadablePoint row rows (record { x = 
 
 all_segments : (points : List PointRow) (rows : List SegmentRow) → AllByRecursion IsSegmentRow rows → AllByRecursion (HasEnds points) rows → All (IsReadableSegment points) rows
 all_segments points [] are have = All-nil (IsReadableSegment points)
-all_segments points (row ∷ rows) are have = All-cons (IsReadableSegment points) row rows (record { p_known = known_from points row.p 1 have.0.0; q_known = known_from points row.q 1 have.0.1; maxh = size_readable row.maxh are.0.maxh; left = are.0.left; right = are.0.right }) (all_segments points rows are.1 have.1)
+all_segments points (row ∷ rows) are have = All-cons (IsReadableSegment points) row rows (record { p_known = known_from points row.p 1 have.0.0; q_known = known_from points row.q 1 have.0.1; bc = are.0.bc; maxh = size_readable row.maxh are.0.maxh; left = are.0.left; right = are.0.right }) (all_segments points rows are.1 have.1)
 
 all_materials : (rows : List MaterialRow) → AllByRecursion IsMaterialRow rows → All IsReadableMaterial rows
 all_materials [] are = All-nil IsReadableMaterial

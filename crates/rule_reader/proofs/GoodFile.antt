@@ -290,7 +290,7 @@ file_takes left rules st e =
     subst (λ (p : List Rule × State). Admits left p.0) d.0 (t1.0 ++ t2.0, sym whole, (a.0.0, t1.0, t2.0, t1.1, (t2.1, t2.2), refl))
 
 -- behind `tolfak` or nothing a rule comes, or the end
-rules_no_tolfak : (said : List Said) (v : List Rule) → many whole_rule 0 said v → NoTolfak (words said ++ [])
+pub rules_no_tolfak : (said : List Said) (v : List Rule) → many whole_rule 0 said v → NoTolfak (words said ++ [])
 unfolding many whole_rule
 rules_no_tolfak said [] l = ap (λ (s : List Said). is_tolfak (head (words s ++ []))) l
 rules_no_tolfak said (r ∷ rs) l =

@@ -13,6 +13,7 @@ pub mod ToldEntries
 pub mod ToldMany
 pub mod RulesPassed
 pub mod Refused
+pub mod OneRefusal
 pub mod Starts
 pub mod LineEnds
 pub mod Lexing

@@ -4,7 +4,7 @@ use Rattle.std.specs.Prelude.{find, IfErr}
 use Rattle.std.specs.List.{AllByRecursion}
 use Rattle.std.specs.Str.{bytes_eq}
 use Rattle.std.proofs.lemmas.Slice.Eq.{bytes_eq-Decides}
-use Rattle.std.proofs.lemmas.Bool.{eqb-true, eqb-false, ltb-true, lt-ltb}
+use Rattle.std.proofs.lemmas.Bool.{eqb-true, eqb-false, ne_eqb, ltb-true, lt-ltb}
 use Rattle.std.proofs.lemmas.List.{append-nil, length-map, nil_from_length}
 use Rattle.rule_reader.specs.declared.fault.Fault.{Fault}
 use Rattle.rule_reader.specs.declared.fault.Fault.TheVariants.{Syntax, Number, TooMany, BadIndex, TooLoose}
@@ -19,16 +19,16 @@ use Rattle.rule_reader.specs.Reading.{Read, ◌>>=◌, judged, is_fit, fit_if, n
 use Rattle.rule_reader.specs.Verdict.{misses, is_bad, loose_starts, verdict, index_verdict, graph_verdict}
 use Rattle.rule_reader.specs.Sections.{tolfak_word, rule_word, endrule_word, tolfak_at, rules_at, file_at, word_number, refusal_of, reading, IsReading}
 use Rattle.rule_reader.specs.Grammar.{Limits, standard, Said, Index, plain, words, ◌▹◌, done, many, at_most, name, tolfak, rule_said, whole_rule, Hits}
-use Rattle.rule_reader.specs.Refusals.{kind_of, StandsAt, AtRule, IsBegun, rules_said, IsFront, IsRead, Misfits, Misses, Ends, Refuses}
+use Rattle.rule_reader.specs.Refusals.{kind_of, StandsAt, AtRule, AsPast, IsBut, IsBegun, rules_said, IsFront, IsRead, Misfits, Misses, Ends, Refuses}
 use Rattle.rule_reader.proofs.Good.{◌▸◌, ok_is, use_at, uses_of, words_append}
 use Rattle.rule_reader.proofs.GoodLists.{name_head}
 use Rattle.rule_reader.proofs.GoodFile.{good_body, body, is_rule, hits_of}
 use Rattle.rule_reader.proofs.Starts.{starts_counted, starts_there}
 use Rattle.rule_reader.proofs.LineEnds.{rule_lines, some_points}
 use Rattle.rule_reader.proofs.Within.{body_in, rules_in, form_in, file_in}
-use Rattle.rule_reader.proofs.Told.{form, Like, Stopping, Says, Completes, Kind, Fronts, GoesOn, IsFault, blind_same, bind_err, fault_first, like_behind, stopping_like, judged_err}
+use Rattle.rule_reader.proofs.Told.{form, Like, Past, past_like, raised, Stopping, Says, Completes, Kind, Fronts, GoesOn, IsFault, blind_same, bind_err, fault_first, like_behind, stopping_like, judged_err}
 use Rattle.rule_reader.proofs.ToldEntries.{blind_name}
-use Rattle.rule_reader.proofs.ToldMany.{raised, not_both, head_next, many_grow, told_body}
+use Rattle.rule_reader.proofs.ToldMany.{not_both, head_next, many_grow, told_body}
 use Rattle.rule_reader.proofs.RulesPassed.{no_text, rule_fault, Unread, Next, NoRule, Full, Faulty, Passed, rules_passed, told_tolfak}
 
 -- ---- the place of a fault in a text
@@ -39,7 +39,7 @@ StopsAt f used rest = (limits : Limits) (s : State) (c : List Tok) → s.left �
 abbrev PlaceKind : ℕ → Fault → List Tok → List Tok → Type 0
 PlaceKind ended (Syntax n) used rest = n ≡ length rest
 PlaceKind ended (Number n) used rest = (bytes : List ℕ) × (more : List Tok) × (other : List ℕ) × (rest ≡ NumberTok bytes ∷ more) × (n ≡ length rest) × IsFront ended (used ++ NumberTok other ∷ [])
-PlaceKind ended (TooMany r what) used rest = (word : Tok) × (more : List Tok) × (other : Tok) × (rest ≡ word ∷ more) × (kind_of other ≡ kind_of word) × (r ≡ ended + 1) × ((most : Limits) × IsBegun most (used ++ other ∷ [])) × StandsAt what word
+PlaceKind ended (TooMany r what) used rest = (word : Tok) × (more : List Tok) × (other : Tok) × (rest ≡ word ∷ more) × (kind_of other ≡ kind_of word) × (r ≡ ended + 1) × ((most : Limits) × IsBut what most × IsBegun most (used ++ other ∷ [])) × StandsAt what word
 PlaceKind ended (BadIndex r n) used rest = ⊥
 PlaceKind ended (TooLoose r) used rest = ⊥
 
@@ -74,6 +74,10 @@ syntax_refused text used (word ∷ more) ended n left read stop k =
       stop = λ other alike most b. no_more used other most (λ rest. stop most (at_start ((used ++ other ∷ []) ++ rest)) (other ∷ rest) (append_assoc used (other ∷ []) rest) (ap (λ (t : Tok). Some t) alike)) b;
     })
 
+past_next : (what : ℕ) (word other : Tok) (more rest : List Tok) → rest ≡ word ∷ more → AsPast what word other → Past what (Some other) (head rest)
+past_next what word other more rest e (inl same) = inl (ap (λ (t : Tok). Some t) same ∙ sym (ap head e))
+past_next what word other more rest e (inr number) = inr (number.0, ap (λ (t : Tok). Some t) number.1 ∙ sym (ap (λ (ts : List Tok). form (head ts)) e))
+
 refused_at : (text : List Tok) (f : Fault) → Found text f → Refuses text (refusal_of (length text) (stops.Fault f))
 refused_at text (Syntax n) p = syntax_refused text p.used p.rest p.ended n p.left p.read p.stop p.kind
 refused_at text (Number n) p =
@@ -96,7 +100,7 @@ refused_at text (TooMany r what) p =
       word = k.0;
       here = record { before = p.used; after = k.1; same = same; place = refl; read = p.read };
       rule = k.5;
-      stop = λ most agree b. no_more p.used k.0 most (λ rest. p.stop most (at_start ((p.used ++ k.0 ∷ []) ++ rest)) (k.0 ∷ rest) (append_assoc p.used (k.0 ∷ []) rest) (sym (ap head k.3), agree)) b;
+      stop = λ other past most agree b. no_more p.used other most (λ rest. p.stop most (at_start ((p.used ++ other ∷ []) ++ rest)) (other ∷ rest) (append_assoc p.used (other ∷ []) rest) (past_next what k.0 other k.1 p.rest k.3 past, agree)) b;
       other = k.2;
       alike = k.4;
       begins = k.6;
@@ -107,6 +111,15 @@ refused_at text (TooLoose r) p = absurd p.kind
 
 -- ---- fronts
 
+pub words_length : (said : List Said) → length (words said) ≡ length said
+words_length said = length-map said (λ s. s.word)
+
+-- a limit that is left aside leaves the others
+raised_but : (what : ℕ) → IsBut what (raised what standard)
+raised_but what other differs =
+    let apart : eqb what other ≡ false = ne_eqb what other (λ (e : what ≡ other). differs (sym e)) in
+    ap (λ (b : Bool). standard other + cond b 1 0) apart ∙ omega arith
+
 -- some rule, whatever its indices
 a_rule : Says (rule_said standard)
 a_rule = (told_body standard).some
@@ -114,7 +127,7 @@ a_rule = (told_body standard).some
 nonempty : (text : List Tok) (word : Tok) → head text ≡ Some word → 0 < length text
 nonempty text word e = let n = head_next text word e in let k : length text ≡ suc (length n.0) = ap length n.1 in omega (arith, k)
 
-rule_nonempty : (most : Limits) (said : List Said) (v : Rule) → rule_said most said v → 0 < length (words said)
+pub rule_nonempty : (most : Limits) (said : List Said) (v : Rule) → rule_said most said v → 0 < length (words said)
 rule_nonempty most said v l = nonempty (words said) (NameTok rule_word) (ap head (sym (append-nil (words said))) ∙ name_head _ rule_word said v [] l)
 
 no_rules : (said : List Said) (u : Unit {0}) → tolfak said u → rules_said said []
@@ -129,10 +142,10 @@ tolfak_front u c =
     let r = a_rule in
     let some : 0 < length (words r.0) = rule_nonempty standard r.0 r.1 r.2 in
     let count : length (c.0 ++ words r.0) ≡ length c.0 + length (words r.0) = length-append c.0 (words r.0) in
-    inr (
-      c.0 ++ words r.0,
-      omega (arith, some, count),
-      record {
+    inr (record {
+      more = c.0 ++ words r.0;
+      some = omega (arith, some, count);
+      one = record {
         front = c.1;
         said = r.0;
         same = sym (append_assoc u c.0 (words r.0)) ∙ ap (λ (ts : List Tok). ts ++ words r.0) (sym c.4);
@@ -142,8 +155,9 @@ tolfak_front u c =
         says = r.2;
         few = omega arith;
         count = refl;
-      },
-    )
+      };
+      among = λ no. absurd (omega (arith, no));
+    })
 
 tolfak_begun : (u : List Tok) → Completes tolfak u → IsBegun standard u
 unfolding ◌▹◌ at_most many
@@ -152,10 +166,11 @@ tolfak_begun u c = (c.0, [], (c.1, c.4, (c.2, c.1, [], c.3, (refl, omega arith),
 -- behind rules that fit
 half_behind : (front : List Said) (rules : List Rule) → rules_said front rules → length rules < 256 → (u : List Tok) → (c : Completes (rule_said standard) u) → 0 < length c.0 → IsFront (length rules) (words front ++ u)
 half_behind front rules fit few u c some =
-    inr (
-      c.0,
-      some,
-      record {
+    let all : length (words front ++ u) ≡ length (words front) + length u = length-append (words front) u in
+    inr (record {
+      more = c.0;
+      some = some;
+      one = record {
         front = front;
         said = c.1;
         same = append_assoc (words front) u c.0 ∙ ap (λ (ts : List Tok). words front ++ ts) (sym c.4);
@@ -165,24 +180,31 @@ half_behind front rules fit few u c some =
         says = c.3;
         few = few;
         count = refl;
-      },
-    )
+      };
+      among = λ there. omega (arith, all, words_length front);
+    })
 
 many_snoc : {A : Type 0} (L : List Said → A → Type 0) (k : ℕ) (said : List Said) (xs : List A) (last : List Said) (x : A) → many (λ k. L) k said xs → L last x → many (λ k. L) k (said ++ last) (xs ++ x ∷ [])
 unfolding many
 many_snoc L k said [] last x l m = (last, [], m, refl, ap (λ (s : List Said). s ++ last) l ∙ sym (append-nil last))
 many_snoc L k said (y ∷ ys) last x l m = (l.0, l.1 ++ last, l.2, many_snoc L (k + 1) l.1 ys last x l.3 m, ap (λ (s : List Said). s ++ last) l.4 ∙ append_assoc l.0 l.1 last)
 
-rules_grow : (said : List Said) (rules : List Rule) → many whole_rule 0 said rules → many (λ k. rule_said (raised standard)) 0 said rules
-unfolding whole_rule
-rules_grow said rules l = many_grow whole_rule (λ k. rule_said (raised standard)) (λ k s v w. (told_body standard).grow s v w.0) 0 said rules l
-
-begun_behind : (front : List Said) (rules : List Rule) → rules_said front rules → length rules ≤ 256 → (u : List Tok) → Completes (rule_said (raised standard)) u → IsBegun (raised standard) (words front ++ u)
-unfolding ◌▹◌ at_most
-begun_behind front rules fit few u c =
-    let all = many_snoc (rule_said (raised standard)) 0 fit.2 rules c.1 c.2 (rules_grow fit.2 rules fit.4) c.3 in
+-- behind rules that fit, one more, where there is room for it
+pub begun_in : (most : Limits) → ((said : List Said) (v : Rule) → rule_said standard said v → rule_said most said v) → (front : List Said) (rules : List Rule) → rules_said front rules → length rules < most 1
+    → (u : List Tok) → Completes (rule_said most) u → IsBegun most (words front ++ u)
+unfolding ◌▹◌ at_most whole_rule
+begun_in most grow front rules fit few u c =
+    let grown = many_grow whole_rule (λ k. rule_said most) (λ k s v w. grow s v w.0) 0 fit.2 rules fit.4 in
+    let all = many_snoc (rule_said most) 0 fit.2 rules c.1 c.2 grown c.3 in
     let count : length (rules ++ c.2 ∷ []) ≡ length rules + 1 = length-append rules (c.2 ∷ []) in
-    (c.0, rules ++ c.2 ∷ [], (front ++ c.1, words_append front c.1 ∙ ap (λ (ts : List Tok). words front ++ ts) c.4 ∙ sym (append_assoc (words front) u c.0), (fit.0, fit.1, fit.2 ++ c.1, fit.3, (all, omega (arith, count)), ap (λ (s : List Said). s ++ c.1) fit.5 ∙ append_assoc fit.1 fit.2 c.1)))
+    (c.0, rules ++ c.2 ∷ [], (front ++ c.1, words_append front c.1 ∙ ap (λ (ts : List Tok). words front ++ ts) c.4 ∙ sym (append_assoc (words front) u c.0), (fit.0, fit.1, fit.2 ++ c.1, fit.3, (all, omega (arith, count, few)), ap (λ (s : List Said). s ++ c.1) fit.5 ∙ append_assoc fit.1 fit.2 c.1)))
+
+-- so where one limit is left aside
+begun_behind : (what : ℕ) (front : List Said) (rules : List Rule) → rules_said front rules → length rules < raised what standard 1 → (u : List Tok) → Completes (rule_said (raised what standard)) u → (most : Limits) × IsBut what most × IsBegun most (words front ++ u)
+begun_behind what front rules fit few u c = (raised what standard, raised_but what, begun_in (raised what standard) ((told_body standard).grow what) front rules fit few u c)
+
+room_for : (what n : ℕ) → n < 256 → n < raised what standard 1
+room_for what n few = omega (arith, few)
 
 whole_front : (front : List Said) (rules : List Rule) → rules_said front rules → length rules ≤ 256 → IsFront (length rules) (words front)
 unfolding ◌▹◌ at_most
@@ -205,7 +227,7 @@ last_snoc [] t u = refl
 last_snoc (v ∷ ts) t u = last_snoc ts t v
 
 -- a rule ends with its last word
-rule_last : (most : Limits) (said : List Said) (v : Rule) → rule_said most said v → (front : List Tok) × (words said ≡ front ++ NameTok endrule_word ∷ [])
+pub rule_last : (most : Limits) (said : List Said) (v : Rule) → rule_said most said v → (front : List Tok) × (words said ≡ front ++ NameTok endrule_word ∷ [])
 unfolding ◌▹◌ name done
 rule_last most said v l =
     let a = l.4 in
@@ -258,11 +280,11 @@ word_fault : (st : State) (f : Fault) → tolfak_at st ≡ Err f → IsWordFault
 unfolding tolfak_at
 word_fault st f e = tolfak_fault (is_at tolfak_word st) st f e
 
-tolfak_read : (u : List Tok) → Fronts tolfak tolfak u → IsRead 0 u
+tolfak_read : (u : List Tok) → Fronts tolfak (λ what. tolfak) u → IsRead 0 u
 tolfak_read u (inl c) = inl (tolfak_front u c)
-tolfak_read u (inr e) = inr (e.0, e.1, tolfak_front e.0 e.2, (standard, tolfak_begun u e.3))
+tolfak_read u (inr e) = inr (e.0, e.1, tolfak_front e.0 e.2, (standard, (λ other differs. refl), tolfak_begun u e.3))
 
-tolfak_kind : (f : Fault) (used rest : List Tok) → IsWordFault f → Kind 0 tolfak tolfak f used rest → PlaceKind 0 f used rest
+tolfak_kind : (f : Fault) (used rest : List Tok) → IsWordFault f → Kind 0 tolfak (λ what. tolfak) f used rest → PlaceKind 0 f used rest
 tolfak_kind (Syntax n) used rest w k = k
 tolfak_kind (Number n) used rest w k = (k.0, k.1, k.2, k.3, k.4, tolfak_front (used ++ NumberTok k.2 ∷ []) k.5)
 tolfak_kind (TooMany r what) used rest w k = absurd w
@@ -369,7 +391,7 @@ found_past text b t full =
     let next = rule_next b.st1.left t in
     let r = a_rule in
     let number : 0 + length b.rules + 1 ≡ length b.rules + 1 = omega arith in
-    let grown = (told_body standard).grow r.0 r.1 r.2 in
+    let grown = (told_body standard).grow 1 r.0 r.1 r.2 in
     let first = head_next (words r.0) (NameTok rule_word) (ap head (sym (append-nil (words r.0))) ∙ name_head _ rule_word r.0 r.1 [] r.2) in
     record {
       used = words b.front;
@@ -377,10 +399,10 @@ found_past text b t full =
       left = b.left;
       ended = length b.rules;
       read = inl (whole_front b.front b.rules b.fit b.few);
-      stop = λ limits s c left stopping. b.stop limits s c left (ap form stopping.0) (λ s2 k room3 left2 agree.
+      stop = λ limits s c left stopping. b.stop limits s c left (past_like 1 (head c) (head b.st1.left) stopping.0) (λ s2 k room3 left2 agree.
           let room : room3 + length b.rules ≡ 256 = agree stopping.1 in
-          inl (rules_past limits k room3 s2 (omega arith) (ap (λ (ts : List Tok). is_rule (head ts)) left2 ∙ ap is_rule stopping.0 ∙ t)));
-      kind = (NameTok rule_word, next.0, NameTok rule_word, next.1, refl, number, (raised standard, begun_behind b.front b.rules b.fit b.few (NameTok rule_word ∷ []) (first.0, r.0, r.1, grown, first.1)), AtRule refl refl);
+          inl (rules_past limits k room3 s2 (omega arith) (ap (λ (ts : List Tok). is_rule (head ts)) left2 ∙ rule_like (head c) (head b.st1.left) (past_like 1 (head c) (head b.st1.left) stopping.0) true t)));
+      kind = (NameTok rule_word, next.0, NameTok rule_word, next.1, refl, number, begun_behind 1 b.front b.rules b.fit (omega (arith, b.few)) (NameTok rule_word ∷ []) (first.0, r.0, r.1, grown, first.1), AtRule refl refl);
     }
 
 rules_none : (limits : Limits) (k room : ℕ) (s : State) → is_rule (head s.left) ≡ false → rules_in limits k room s ≡ Ok ([], s)
@@ -413,19 +435,20 @@ unfolding rules_in
 rules_bad limits k zero s t bad = (TooMany (k + 1) 1, rw t refl)
 rules_bad limits k (suc room) s t bad = (bad.0, rw (t, bad.1) refl)
 
-rule_read : (front : List Said) (rules : List Rule) → rules_said front rules → length rules < 256 → (st : State) (f : Fault) (used rest : List Tok) → st.left ≡ used ++ rest → body st ≡ Err f → Fronts (rule_said standard) (rule_said (raised standard)) used → IsRead (length rules) (words front ++ used)
+rule_read : (front : List Said) (rules : List Rule) → rules_said front rules → length rules < 256 → (st : State) (f : Fault) (used rest : List Tok) → st.left ≡ used ++ rest → body st ≡ Err f → Fronts (rule_said standard) (λ what. rule_said (raised what standard)) used → IsRead (length rules) (words front ++ used)
 rule_read front rules fit few st f used rest left bad (inl c) = inl (half_behind front rules fit few used c (unfinished st f used rest left bad c))
 rule_read front rules fit few st f used rest left bad (inr e) =
     let here : st.left ≡ e.0 ++ (MarkTok 44 ∷ rest) = left ∙ ap (λ (ts : List Tok). ts ++ rest) e.1 ∙ append_assoc e.0 (MarkTok 44 ∷ []) rest in
-    inr (words front ++ e.0, ap (λ (ts : List Tok). words front ++ ts) e.1 ∙ sym (append_assoc (words front) e.0 (MarkTok 44 ∷ [])), half_behind front rules fit few e.0 e.2 (unfinished st f e.0 (MarkTok 44 ∷ rest) here bad e.2), (raised standard, begun_behind front rules fit (omega arith) used e.3))
+    inr (words front ++ e.0, ap (λ (ts : List Tok). words front ++ ts) e.1 ∙ sym (append_assoc (words front) e.0 (MarkTok 44 ∷ [])), half_behind front rules fit few e.0 e.2 (unfinished st f e.0 (MarkTok 44 ∷ rest) here bad e.2), begun_behind 10 front rules fit (room_for 10 (length rules) few) used e.3)
 
-rule_kind : (front : List Said) (rules : List Rule) → rules_said front rules → length rules < 256 → (f : Fault) (used rest : List Tok) → Kind (0 + length rules + 1) (rule_said standard) (rule_said (raised standard)) f used rest → PlaceKind (length rules) f (words front ++ used) rest
+rule_kind : (front : List Said) (rules : List Rule) → rules_said front rules → length rules < 256 → (f : Fault) (used rest : List Tok) → Kind (0 + length rules + 1) (rule_said standard) (λ what. rule_said (raised what standard)) f used rest → PlaceKind (length rules) f (words front ++ used) rest
 rule_kind front rules fit few (Syntax n) used rest k = k
 rule_kind front rules fit few (Number n) used rest k =
     (k.0, k.1, k.2, k.3, k.4, subst (λ (ts : List Tok). IsFront (length rules) ts) (sym (append_assoc (words front) used (NumberTok k.2 ∷ []))) (half_behind front rules fit few (used ++ NumberTok k.2 ∷ []) k.5 (unended used k.2 k.5)))
 rule_kind front rules fit few (TooMany r what) used rest k =
     let number : r ≡ length rules + 1 = omega (arith, k.5) in
-    (k.0, k.1, k.2, k.3, k.4, number, (raised standard, subst (λ (ts : List Tok). IsBegun (raised standard) ts) (sym (append_assoc (words front) used (k.2 ∷ []))) (begun_behind front rules fit (omega arith) (used ++ k.2 ∷ []) k.6)), k.7)
+    let begun = begun_behind what front rules fit (room_for what (length rules) few) (used ++ k.2 ∷ []) k.6 in
+    (k.0, k.1, k.2, k.3, k.4, number, (begun.0, begun.1, subst (λ (ts : List Tok). IsBegun begun.0 ts) (sym (append_assoc (words front) used (k.2 ∷ []))) begun.2), k.7)
 rule_kind front rules fit few (BadIndex r n) used rest k = absurd k
 rule_kind front rules fit few (TooLoose r) used rest k = absurd k
 
@@ -525,9 +548,6 @@ ends_of text c = record {
   place = refl;
   one = record { front = c.front; said = c.said; same = refl; rules = c.rules; rule = c.rule; fit = c.fit; says = c.says; few = c.few; count = refl };
 }
-
-words_length : (said : List Said) → length (words said) ≡ length said
-words_length said = length-map said (λ s. s.word)
 
 text_length : (text : List Tok) (c : Checked text) → length text ≡ length c.front + (length c.said + length c.more)
 text_length text c = ap length c.left ∙ length-append (words c.front) (words c.said ++ c.more) ∙ omega (arith, words_length c.front, words_length c.said, length-append (words c.said) c.more)

@@ -4,7 +4,7 @@
 -- Gone    what was read, and that another reader reads it too or fails
 -- Broken  the place of a fault
 -- Told    a reader of a language of which all this is known
-use Rattle.std.proofs.Common.{◌≡◌, ℕ, Bool, true, false, cond, List, [], ◌∷◌, ◌++◌, length, Option, Some, None, Result, Ok, Err, refl, sym, ap, subst, ◌∙◌, append_assoc, ◌⊎◌, inl, inr}
+use Rattle.std.proofs.Common.{◌≡◌, ◌≢◌, ℕ, ◌+◌, Bool, true, false, cond, eqb, List, [], ◌∷◌, ◌++◌, length, Option, Some, None, Result, Ok, Err, refl, sym, ap, subst, ◌∙◌, append_assoc, ◌⊎◌, inl, inr}
 use Rattle.rule_reader.specs.declared.fault.Fault.{Fault}
 use Rattle.rule_reader.specs.declared.fault.Fault.TheVariants.{Syntax, Number, TooMany, BadIndex, TooLoose}
 use Rattle.rule_reader.specs.declared.reader.Fit.{Fit}
@@ -58,18 +58,30 @@ pub fault_not : {A : Type 0} (r : Result A Fault) → ((x : A) → r ≡ Ok x �
 fault_not (Ok x) none = absurd (none x refl)
 fault_not (Err f) none = (f, refl)
 
+-- a limit refuses just this word; that of terms refuses any number
+abbrev pub Past : ℕ → Option Tok → Option Tok → Type 0
+Past what a b = (a ≡ b) ⊎ ((what ≡ 10) × Like a b)
+
+pub past_like : (what : ℕ) (a b : Option Tok) → Past what a b → Like a b
+past_like what a b (inl same) = ap form same
+past_like what a b (inr number) = number.1
+
+pub past_same : (what : ℕ) (a b : Option Tok) → what ≢ 10 → Past what a b → a ≡ b
+past_same what a b other (inl same) = same
+past_same what a b other (inr number) = absurd (other number.0)
+
 -- when another reader, within other limits, fails as well
 abbrev pub Stopping : Limits → Limits → Fault → Option Tok → Option Tok → Type 0
 Stopping most other (Syntax n) a b = Like a b
 Stopping most other (Number n) a b = a ≡ b
-Stopping most other (TooMany rule what) a b = (a ≡ b) × (other what ≡ most what)
+Stopping most other (TooMany rule what) a b = Past what a b × (other what ≡ most what)
 Stopping most other (BadIndex rule n) a b = a ≡ b
 Stopping most other (TooLoose rule) a b = a ≡ b
 
 pub stopping_like : (most other : Limits) (f : Fault) (a b : Option Tok) → Stopping most other f a b → Like a b
 stopping_like most other (Syntax n) a b s = s
 stopping_like most other (Number n) a b s = ap form s
-stopping_like most other (TooMany rule what) a b s = ap form s.0
+stopping_like most other (TooMany rule what) a b s = past_like what a b s.0
 stopping_like most other (BadIndex rule n) a b s = ap form s
 stopping_like most other (TooLoose rule) a b s = ap form s
 
@@ -82,15 +94,19 @@ Completes {A} L used = (more : List Tok) × (said : List Said) × (v : A) × L s
 abbrev comma : List Tok
 comma = MarkTok 44 ∷ []
 
--- so, or but for a comma at the end, with which they go on in a larger language
-abbrev pub Fronts : {A : Type 0} → (List Said → A → Type 0) → (List Said → A → Type 0) → List Tok → Type 0
-Fronts L M used = Completes L used ⊎ ((front : List Tok) × (used ≡ front ++ comma) × Completes L front × Completes M used)
+-- what a language says where the limit of a number is left aside
+abbrev pub Larger : Type 0 → Type 1
+Larger A = ℕ → List Said → A → Type 0
+
+-- so, or but for a comma at the end, with which they go on where the limit of terms is left aside
+abbrev pub Fronts : {A : Type 0} → (List Said → A → Type 0) → Larger A → List Tok → Type 0
+Fronts L M used = Completes L used ⊎ ((front : List Tok) × (used ≡ front ++ comma) × Completes L front × Completes (M 10) used)
 
 -- what is known of the word at a fault, in a rule of this number
-abbrev pub Kind : {A : Type 0} → ℕ → (List Said → A → Type 0) → (List Said → A → Type 0) → Fault → List Tok → List Tok → Type 0
+abbrev pub Kind : {A : Type 0} → ℕ → (List Said → A → Type 0) → Larger A → Fault → List Tok → List Tok → Type 0
 Kind rule L M (Syntax n) used rest = n ≡ length rest
 Kind rule L M (Number n) used rest = (bytes : List ℕ) × (more : List Tok) × (other : List ℕ) × (rest ≡ NumberTok bytes ∷ more) × (n ≡ length rest) × Completes L (used ++ NumberTok other ∷ [])
-Kind rule L M (TooMany r what) used rest = (word : Tok) × (more : List Tok) × (other : Tok) × (rest ≡ word ∷ more) × (kind_of other ≡ kind_of word) × (r ≡ rule) × Completes M (used ++ other ∷ []) × StandsAt what word
+Kind rule L M (TooMany r what) used rest = (word : Tok) × (more : List Tok) × (other : Tok) × (rest ≡ word ∷ more) × (kind_of other ≡ kind_of word) × (r ≡ rule) × Completes (M what) (used ++ other ∷ []) × StandsAt what word
 Kind rule L M (BadIndex r n) used rest = ⊥
 Kind rule L M (TooLoose r) used rest = ⊥
 
@@ -105,7 +121,7 @@ pub record Gone (A : Type 0) (L : List Said → A → Type 0) (other : Limits �
   pub rule : st2.rule ≡ st.rule
   pub along : (limits : Limits) (s : State) (c : List Tok) → s.left ≡ words said ++ c → Like (head c) (head st2.left) → GoesOn v c (other limits s)
 
-pub record Broken (A : Type 0) (most : Limits) (L M : List Said → A → Type 0) (other : Limits → State → Read A) (st : State) (f : Fault) : Type 0 where
+pub record Broken (A : Type 0) (most : Limits) (L : List Said → A → Type 0) (M : Larger A) (other : Limits → State → Read A) (st : State) (f : Fault) : Type 0 where
   pub used : List Tok
   pub rest : List Tok
   pub left : st.left ≡ used ++ rest
@@ -116,26 +132,37 @@ pub record Broken (A : Type 0) (most : Limits) (L M : List Said → A → Type 0
 abbrev pub Says : {A : Type 0} → (List Said → A → Type 0) → Type 0
 Says {A} L = (said : List Said) × (v : A) × L said v
 
-pub record Told (A : Type 0) (most : Limits) (L M : List Said → A → Type 0) (p : State → Read A) (other : Limits → State → Read A) : Type 0 where
+pub record Told (A : Type 0) (most : Limits) (L : List Said → A → Type 0) (M : Larger A) (p : State → Read A) (other : Limits → State → Read A) : Type 0 where
   pub some : Says L
-  pub grow : (said : List Said) (v : A) → L said v → M said v
+  pub grow : (what : ℕ) (said : List Said) (v : A) → L said v → M what said v
   pub ok : (st : State) (v : A) (st2 : State) → p st ≡ Ok (v, st2) → Gone A L other st v st2
   pub err : (st : State) (f : Fault) → p st ≡ Err f → Broken A most L M other st f
 
+-- the limit of a number left aside
+abbrev pub extra : ℕ → ℕ → ℕ
+extra what other = cond (eqb what other) 1 0
+
+abbrev pub raised : ℕ → Limits → Limits
+raised what most other = most other + extra what other
+
+-- a reader within these limits, beside itself within others
+abbrev pub ToldIn : {A : Type 0} → Limits → (Limits → List Said → A → Type 0) → (Limits → State → Read A) → Type 0
+ToldIn {A} most L p = Told A most (L most) (λ what. L (raised what most)) (p most) p
+
 -- ---- one language in another
 
-pub lift_front : {A B : Type 0} {L L2 : List Said → A → Type 0} {M M2 : List Said → B → Type 0} (prefix : List Tok) → ((u : List Tok) → Completes L u → Completes M (prefix ++ u)) → ((u : List Tok) → Completes L2 u → Completes M2 (prefix ++ u))
+pub lift_front : {A B : Type 0} {L : List Said → A → Type 0} {L2 : Larger A} {M : List Said → B → Type 0} {M2 : Larger B} (prefix : List Tok) → ((u : List Tok) → Completes L u → Completes M (prefix ++ u)) → ((what : ℕ) (u : List Tok) → Completes (L2 what) u → Completes (M2 what) (prefix ++ u))
     → (used : List Tok) → Fronts L L2 used → Fronts M M2 (prefix ++ used)
 lift_front prefix lift lift2 used (inl c) = inl (lift used c)
-lift_front prefix lift lift2 used (inr e) = inr (prefix ++ e.0, ap (λ (ts : List Tok). prefix ++ ts) e.1 ∙ sym (append_assoc prefix e.0 comma), lift e.0 e.2, lift2 used e.3)
+lift_front prefix lift lift2 used (inr e) = inr (prefix ++ e.0, ap (λ (ts : List Tok). prefix ++ ts) e.1 ∙ sym (append_assoc prefix e.0 comma), lift e.0 e.2, lift2 10 used e.3)
 
-pub lift_kind : {A B : Type 0} {L L2 : List Said → A → Type 0} {M M2 : List Said → B → Type 0} (prefix : List Tok) → ((u : List Tok) → Completes L u → Completes M (prefix ++ u)) → ((u : List Tok) → Completes L2 u → Completes M2 (prefix ++ u))
+pub lift_kind : {A B : Type 0} {L : List Said → A → Type 0} {L2 : Larger A} {M : List Said → B → Type 0} {M2 : Larger B} (prefix : List Tok) → ((u : List Tok) → Completes L u → Completes M (prefix ++ u)) → ((what : ℕ) (u : List Tok) → Completes (L2 what) u → Completes (M2 what) (prefix ++ u))
     → (rule : ℕ) (f : Fault) (used rest : List Tok) → Kind rule L L2 f used rest → Kind rule M M2 f (prefix ++ used) rest
 lift_kind prefix lift lift2 rule (Syntax n) used rest k = k
 lift_kind {M = M} prefix lift lift2 rule (Number n) used rest k =
     (k.0, k.1, k.2, k.3, k.4, subst (λ (u : List Tok). Completes M u) (sym (append_assoc prefix used (NumberTok k.2 ∷ []))) (lift (used ++ NumberTok k.2 ∷ []) k.5))
 lift_kind {M2 = M2} prefix lift lift2 rule (TooMany r what) used rest k =
-    (k.0, k.1, k.2, k.3, k.4, k.5, subst (λ (u : List Tok). Completes M2 u) (sym (append_assoc prefix used (k.2 ∷ []))) (lift2 (used ++ k.2 ∷ []) k.6), k.7)
+    (k.0, k.1, k.2, k.3, k.4, k.5, subst (λ (u : List Tok). Completes (M2 what) u) (sym (append_assoc prefix used (k.2 ∷ []))) (lift2 what (used ++ k.2 ∷ []) k.6), k.7)
 lift_kind prefix lift lift2 rule (BadIndex r n) used rest k = absurd k
 lift_kind prefix lift lift2 rule (TooLoose r) used rest k = absurd k
 
@@ -167,16 +194,16 @@ gone_in {A} {L} {M} {p} {q} st v st2 g there follows =
       along = λ limits s c left like. along_in v c (p limits s) (q limits s) (follows limits s (like_at s.left st.left (words g.said) c st2.left left g.left like)) (g.along limits s c left like);
     }
 
-pub broken_in : {A : Type 0} {most : Limits} {L L2 M M2 : List Said → A → Type 0} {p q : Limits → State → Read A} (st : State) (f : Fault) → Broken A most L L2 p st f
-    → ((said : List Said) (v : A) → L said v → M said v) → ((said : List Said) (v : A) → L2 said v → M2 said v) → Follows q p st → Broken A most M M2 q st f
-broken_in {A} {most} {L} {L2} {M} {M2} {p} {q} st f b there there2 follows =
+pub broken_in : {A : Type 0} {most : Limits} {L M : List Said → A → Type 0} {L2 M2 : Larger A} {p q : Limits → State → Read A} (st : State) (f : Fault) → Broken A most L L2 p st f
+    → ((said : List Said) (v : A) → L said v → M said v) → ((what : ℕ) (said : List Said) (v : A) → L2 what said v → M2 what said v) → Follows q p st → Broken A most M M2 q st f
+broken_in {A} {most} {L} {M} {L2} {M2} {p} {q} st f b there there2 follows =
     record {
       used = b.used;
       rest = b.rest;
       left = b.left;
-      front = lift_front [] (complete_in there) (complete_in there2) b.used b.front;
+      front = lift_front {L2 = L2} {M2 = M2} [] (complete_in there) (λ what. complete_in (there2 what)) b.used b.front;
       stop = λ limits s c left stopping. stop_in (p limits s) (q limits s) (follows limits s (like_at s.left st.left b.used c b.rest left b.left (stopping_like most limits f (head c) (head b.rest) stopping))) (b.stop limits s c left stopping);
-      kind = lift_kind [] (complete_in there) (complete_in there2) st.rule f b.used b.rest b.kind;
+      kind = lift_kind {L2 = L2} {M2 = M2} [] (complete_in there) (λ what. complete_in (there2 what)) st.rule f b.used b.rest b.kind;
     }
 
 -- ---- one after another
@@ -214,33 +241,33 @@ gone_then {A} {B} {L} M {p} q st x st1 v st2 g h =
           goes_then (p limits s) (λ y. q y limits) x (words h.said ++ c) c v (g.along limits s (words h.said ++ c) left2 like2) (λ s2 left3. h.along limits s2 c left3 like);
     }
 
-pub broken_first : {A B : Type 0} {most : Limits} {L L2 : List Said → A → Type 0} {M M2 : A → List Said → B → Type 0} {p : Limits → State → Read A} (q : A → Limits → State → Read B) (st : State) (f : Fault)
-    → ((x : A) → Says (M x)) → ((x : A) → Says (M2 x)) → Broken A most L L2 p st f → Broken B most (L ▹ M) (L2 ▹ M2) (λ limits. p limits ▸ λ y. q y limits) st f
+pub broken_first : {A B : Type 0} {most : Limits} {L : List Said → A → Type 0} {L2 : Larger A} {M : A → List Said → B → Type 0} {M2 : A → Larger B} {p : Limits → State → Read A} (q : A → Limits → State → Read B) (st : State) (f : Fault)
+    → ((x : A) → Says (M x)) → ((what : ℕ) (x : A) → Says (M2 x what)) → Broken A most L L2 p st f → Broken B most (L ▹ M) (λ what. L2 what ▹ λ x. M2 x what) (λ limits. p limits ▸ λ y. q y limits) st f
 unfolding ◌▸◌
 broken_first {A} {B} {most} {L} {L2} {M} {M2} {p} q st f some some2 b =
     record {
       used = b.used;
       rest = b.rest;
       left = b.left;
-      front = lift_front [] (complete_first some) (complete_first some2) b.used b.front;
+      front = lift_front {L2 = L2} {M2 = λ what. L2 what ▹ λ y. M2 y what} [] (complete_first some) (λ what. complete_first (some2 what)) b.used b.front;
       stop = λ limits s c left stopping. fault_first (p limits s) (λ y. q y.0 limits y.1) (b.stop limits s c left stopping);
-      kind = lift_kind [] (complete_first some) (complete_first some2) st.rule f b.used b.rest b.kind;
+      kind = lift_kind {L2 = L2} {M2 = λ what. L2 what ▹ λ y. M2 y what} [] (complete_first some) (λ what. complete_first (some2 what)) st.rule f b.used b.rest b.kind;
     }
 
-pub broken_second : {A B : Type 0} {most : Limits} {L L2 : List Said → A → Type 0} (M M2 : A → List Said → B → Type 0) {p : Limits → State → Read A} (q : A → Limits → State → Read B) (st : State) (x : A) (st1 : State) (f : Fault)
-    → ((said : List Said) (v : A) → L said v → L2 said v) → Gone A L p st x st1 → Broken B most (M x) (M2 x) (q x) st1 f → Broken B most (L ▹ M) (L2 ▹ M2) (λ limits. p limits ▸ λ y. q y limits) st f
+pub broken_second : {A B : Type 0} {most : Limits} {L : List Said → A → Type 0} {L2 : Larger A} (M : A → List Said → B → Type 0) (M2 : A → Larger B) {p : Limits → State → Read A} (q : A → Limits → State → Read B) (st : State) (x : A) (st1 : State) (f : Fault)
+    → ((what : ℕ) (said : List Said) (v : A) → L said v → L2 what said v) → Gone A L p st x st1 → Broken B most (M x) (M2 x) (q x) st1 f → Broken B most (L ▹ M) (λ what. L2 what ▹ λ x. M2 x what) (λ limits. p limits ▸ λ y. q y limits) st f
 unfolding ◌▸◌
 broken_second {A} {B} {most} {L} {L2} M M2 {p} q st x st1 f grow g b =
     record {
       used = words g.said ++ b.used;
       rest = b.rest;
       left = g.left ∙ ap (λ (ts : List Tok). words g.said ++ ts) b.left ∙ sym (append_assoc (words g.said) b.used b.rest);
-      front = lift_front (words g.said) (complete_second L M g.said x g.says) (complete_second L2 M2 g.said x (grow g.said x g.says)) b.used b.front;
+      front = lift_front {L2 = M2 x} {M2 = λ what. L2 what ▹ λ y. M2 y what} (words g.said) (complete_second L M g.said x g.says) (λ what. complete_second (L2 what) (λ y. M2 y what) g.said x (grow what g.said x g.says)) b.used b.front;
       stop = λ limits s c left stopping.
           let left2 : s.left ≡ words g.said ++ (b.used ++ c) = left ∙ append_assoc (words g.said) b.used c in
           let like2 : Like (head (b.used ++ c)) (head st1.left) = like_at (b.used ++ c) st1.left b.used c b.rest refl b.left (stopping_like most limits f (head c) (head b.rest) stopping) in
           stop_then (p limits s) (λ y. q y limits) x (b.used ++ c) (g.along limits s (b.used ++ c) left2 like2) (λ s2 left3. b.stop limits s2 c left3 stopping);
-      kind = subst (λ (n : ℕ). Kind n (L ▹ M) (L2 ▹ M2) f (words g.said ++ b.used) b.rest) g.rule (lift_kind (words g.said) (complete_second L M g.said x g.says) (complete_second L2 M2 g.said x (grow g.said x g.says)) st1.rule f b.used b.rest b.kind);
+      kind = subst (λ (n : ℕ). Kind n (L ▹ M) (λ what. L2 what ▹ λ y. M2 y what) f (words g.said ++ b.used) b.rest) g.rule (lift_kind {L2 = M2 x} {M2 = λ what. L2 what ▹ λ y. M2 y what} (words g.said) (complete_second L M g.said x g.says) (λ what. complete_second (L2 what) (λ y. M2 y what) g.said x (grow what g.said x g.says)) st1.rule f b.used b.rest b.kind);
     }
 
 pub says_then : {A B : Type 0} {L : List Said → A → Type 0} {M : A → List Said → B → Type 0} → Says L → ((x : A) → Says (M x)) → Says (L ▹ M)
@@ -251,32 +278,32 @@ pub grow_then : {A B : Type 0} {L L2 : List Said → A → Type 0} {M M2 : A →
 unfolding ◌▹◌
 grow_then one two said v l = (l.0, l.1, l.2, one l.1 l.0 l.3, two l.0 l.2 v l.4, l.5)
 
-pub says_more : {A : Type 0} {most : Limits} {L L2 : List Said → A → Type 0} {p : State → Read A} {other : Limits → State → Read A} → Told A most L L2 p other → Says L2
-says_more g = (g.some.0, g.some.1, g.grow g.some.0 g.some.1 g.some.2)
+pub says_more : {A : Type 0} {most : Limits} {L : List Said → A → Type 0} {L2 : Larger A} {p : State → Read A} {other : Limits → State → Read A} → Told A most L L2 p other → (what : ℕ) → Says (L2 what)
+says_more g what = (g.some.0, g.some.1, g.grow what g.some.0 g.some.1 g.some.2)
 
-pub then : {A B : Type 0} {most : Limits} {L L2 : List Said → A → Type 0} {M M2 : A → List Said → B → Type 0} {p : State → Read A} {p2 : Limits → State → Read A} {q : A → State → Read B} {q2 : A → Limits → State → Read B}
-    → Told A most L L2 p p2 → ((x : A) → Told B most (M x) (M2 x) (q x) (q2 x)) → Told B most (L ▹ M) (L2 ▹ M2) (p ▸ q) (λ limits. p2 limits ▸ λ x. q2 x limits)
+pub then : {A B : Type 0} {most : Limits} {L : List Said → A → Type 0} {L2 : Larger A} {M : A → List Said → B → Type 0} {M2 : A → Larger B} {p : State → Read A} {p2 : Limits → State → Read A} {q : A → State → Read B} {q2 : A → Limits → State → Read B}
+    → Told A most L L2 p p2 → ((x : A) → Told B most (M x) (M2 x) (q x) (q2 x)) → Told B most (L ▹ M) (λ what. L2 what ▹ λ x. M2 x what) (p ▸ q) (λ limits. p2 limits ▸ λ x. q2 x limits)
 unfolding ◌▸◌
 then {A} {B} {most} {L} {L2} {M} {M2} {p} {p2} {q} {q2} g h =
     record {
       some = says_then g.some (λ x. (h x).some);
-      grow = grow_then g.grow (λ x. (h x).grow);
+      grow = λ what. grow_then (g.grow what) (λ x. (h x).grow what);
       ok = λ st v st2 e.
           let b = bind_ok (p st) (λ y. q y.0 y.1) (v, st2) e in
           gone_then M q2 st b.0.0 b.0.1 v st2 (g.ok st b.0.0 b.0.1 b.1) ((h b.0.0).ok b.0.1 v st2 b.2);
       err = λ st f e.
           elim (bind_err (p st) (λ y. q y.0 y.1) f e) [
-            | inl bad ↦ broken_first q2 st f (λ x. (h x).some) (λ x. says_more (h x)) (g.err st f bad)
+            | inl bad ↦ broken_first q2 st f (λ x. (h x).some) (λ what x. says_more (h x) what) (g.err st f bad)
             | inr on ↦ broken_second M M2 q2 st on.0.0 on.0.1 f g.grow (g.ok st on.0.0 on.0.1 on.1) ((h on.0.0).err on.0.1 f on.2)
           ];
     }
 
-pub ends : {A : Type 0} {most : Limits} (x : A) → Told A most (done x) (done x) (pure x) (λ limits. pure x)
+pub ends : {A : Type 0} {most : Limits} (x : A) → Told A most (done x) (λ what. done x) (pure x) (λ limits. pure x)
 unfolding done pure
 ends x =
     record {
       some = ([], x, (refl, refl));
-      grow = λ said v l. l;
+      grow = λ what said v l. l;
       ok = λ st v st2 e.
           let both = ok_is (x, st) (v, st2) e in
           let value : x ≡ v = ap (λ (p : _ × State). p.0) both in
@@ -299,38 +326,38 @@ unfolding either
 if_ok A L M true p q p2 q2 r2 st v st2 g h same e = gone_in st v st2 (g v st2 e) (λ said v l. inl l) (λ limits s like. inr (same limits s like))
 if_ok A L M false p q p2 q2 r2 st v st2 g h same e = gone_in st v st2 (h v st2 e) (λ said v l. inr l) (λ limits s like. inr (same limits s like))
 
-if_err : (A : Type 0) (most : Limits) (L L2 M M2 : List Said → A → Type 0) (b : Bool) (p q : State → Read A) (p2 q2 r2 : Limits → State → Read A) (st : State) (f : Fault) → (p st ≡ Err f → Broken A most L L2 p2 st f) → (q st ≡ Err f → Broken A most M M2 q2 st f)
-    → ((limits : Limits) (s : State) → Like (head s.left) (head st.left) → r2 limits s ≡ cond b (p2 limits s) (q2 limits s)) → cond b (p st) (q st) ≡ Err f → Broken A most (either L M) (either L2 M2) r2 st f
+if_err : (A : Type 0) (most : Limits) (L M : List Said → A → Type 0) (L2 M2 : Larger A) (b : Bool) (p q : State → Read A) (p2 q2 r2 : Limits → State → Read A) (st : State) (f : Fault) → (p st ≡ Err f → Broken A most L L2 p2 st f) → (q st ≡ Err f → Broken A most M M2 q2 st f)
+    → ((limits : Limits) (s : State) → Like (head s.left) (head st.left) → r2 limits s ≡ cond b (p2 limits s) (q2 limits s)) → cond b (p st) (q st) ≡ Err f → Broken A most (either L M) (λ what. either (L2 what) (M2 what)) r2 st f
 unfolding either
-if_err A most L L2 M M2 true p q p2 q2 r2 st f g h same e = broken_in st f (g e) (λ said v l. inl l) (λ said v l. inl l) (λ limits s like. inr (same limits s like))
-if_err A most L L2 M M2 false p q p2 q2 r2 st f g h same e = broken_in st f (h e) (λ said v l. inr l) (λ said v l. inr l) (λ limits s like. inr (same limits s like))
+if_err A most L M L2 M2 true p q p2 q2 r2 st f g h same e = broken_in st f (g e) (λ said v l. inl l) (λ what said v l. inl l) (λ limits s like. inr (same limits s like))
+if_err A most L M L2 M2 false p q p2 q2 r2 st f g h same e = broken_in st f (h e) (λ said v l. inr l) (λ what said v l. inr l) (λ limits s like. inr (same limits s like))
 
 grow_either : {A : Type 0} {L L2 M M2 : List Said → A → Type 0} → ((said : List Said) (v : A) → L said v → L2 said v) → ((said : List Said) (v : A) → M said v → M2 said v) → (said : List Said) (v : A) → either L M said v → either L2 M2 said v
 unfolding either
 grow_either one two said v (inl l) = inl (one said v l)
 grow_either one two said v (inr l) = inr (two said v l)
 
-pub by_next : {A : Type 0} {most : Limits} {L L2 M M2 : List Said → A → Type 0} (test : Option Tok → Bool) → Blind test → {p q : State → Read A} {p2 q2 : Limits → State → Read A} → Told A most L L2 p p2 → Told A most M M2 q q2
-    → Told A most (either L M) (either L2 M2) (λ st. cond (test (head st.left)) (p st) (q st)) (λ limits st. cond (test (head st.left)) (p2 limits st) (q2 limits st))
+pub by_next : {A : Type 0} {most : Limits} {L M : List Said → A → Type 0} {L2 M2 : Larger A} (test : Option Tok → Bool) → Blind test → {p q : State → Read A} {p2 q2 : Limits → State → Read A} → Told A most L L2 p p2 → Told A most M M2 q q2
+    → Told A most (either L M) (λ what. either (L2 what) (M2 what)) (λ st. cond (test (head st.left)) (p st) (q st)) (λ limits st. cond (test (head st.left)) (p2 limits st) (q2 limits st))
 unfolding either
-by_next {A} {most} {L} {L2} {M} {M2} test blind {p} {q} {p2} {q2} g h =
+by_next {A} {most} {L} {M} {L2} {M2} test blind {p} {q} {p2} {q2} g h =
     let same : (st : State) (limits : Limits) (s : State) → Like (head s.left) (head st.left) → cond (test (head s.left)) (p2 limits s) (q2 limits s) ≡ cond (test (head st.left)) (p2 limits s) (q2 limits s) =
     λ st limits s like. ap (λ (b : Bool). cond b (p2 limits s) (q2 limits s)) (blind_same test blind (head s.left) (head st.left) like) in
     record {
       some = (h.some.0, h.some.1, inr h.some.2);
-      grow = grow_either g.grow h.grow;
+      grow = λ what. grow_either (g.grow what) (h.grow what);
       ok = λ st v st2 e. if_ok A L M (test (head st.left)) p q p2 q2 (λ limits s. cond (test (head s.left)) (p2 limits s) (q2 limits s)) st v st2 (g.ok st) (h.ok st) (same st) e;
-      err = λ st f e. if_err A most L L2 M M2 (test (head st.left)) p q p2 q2 (λ limits s. cond (test (head s.left)) (p2 limits s) (q2 limits s)) st f (g.err st f) (h.err st f) (same st) e;
+      err = λ st f e. if_err A most L M L2 M2 (test (head st.left)) p q p2 q2 (λ limits s. cond (test (head s.left)) (p2 limits s) (q2 limits s)) st f (g.err st f) (h.err st f) (same st) e;
     }
 
 -- readers that answer as others do
-pub told_same : {A : Type 0} {most : Limits} {L M : List Said → A → Type 0} {p q : State → Read A} {p2 q2 : Limits → State → Read A} → Told A most L M p p2 → ((st : State) → q st ≡ p st) → ((limits : Limits) (st : State) → q2 limits st ≡ p2 limits st) → Told A most L M q q2
+pub told_same : {A : Type 0} {most : Limits} {L : List Said → A → Type 0} {M : Larger A} {p q : State → Read A} {p2 q2 : Limits → State → Read A} → Told A most L M p p2 → ((st : State) → q st ≡ p st) → ((limits : Limits) (st : State) → q2 limits st ≡ p2 limits st) → Told A most L M q q2
 told_same g one two =
     record {
       some = g.some;
       grow = g.grow;
       ok = λ st v st2 e. gone_in st v st2 (g.ok st v st2 (sym (one st) ∙ e)) (λ said v l. l) (λ limits s like. inr (two limits s));
-      err = λ st f e. broken_in st f (g.err st f (sym (one st) ∙ e)) (λ said v l. l) (λ said v l. l) (λ limits s like. inr (two limits s));
+      err = λ st f e. broken_in st f (g.err st f (sym (one st) ∙ e)) (λ said v l. l) (λ what said v l. l) (λ limits s like. inr (two limits s));
     }
 
 -- ---- one word
@@ -366,7 +393,7 @@ judged_err NoNumber st f e = let same : Number (length st.left) ≡ f = cc in in
 abbrev pub Wants : {A B : Type 0} → (Option Tok → Fit A) → (List Said → B → Type 0) → Type 0
 Wants fit L = (left : List Tok) → fit (head left) ≡ NoNumber → (bytes : List ℕ) × (more : List Tok) × (other : List ℕ) × (left ≡ NumberTok bytes ∷ more) × Completes L (NumberTok other ∷ [])
 
-pub word_broken : {A B : Type 0} {most : Limits} {L M : List Said → B → Type 0} (fit : Option Tok → Fit A) (other : Limits → State → Read B) → Blind (λ o. is_unfit (fit o)) → Completes L [] → Wants fit L
+pub word_broken : {A B : Type 0} {most : Limits} {L : List Said → B → Type 0} {M : Larger B} (fit : Option Tok → Fit A) (other : Limits → State → Read B) → Blind (λ o. is_unfit (fit o)) → Completes L [] → Wants fit L
     → ((limits : Limits) (s : State) → IsFault (judged (fit (head s.left)) s) → IsFault (other limits s)) → (st : State) (f : Fault) → judged (fit (head st.left)) st ≡ Err f → Broken B most L M other st f
 word_broken {A} {B} {most} {L} {M} fit other blind front wants fails st f e =
     elim (judged_err (fit (head st.left)) st f e) [
@@ -401,11 +428,11 @@ pub complete_said : {A : Type 0} {L : List Said → A → Type 0} (said : List S
 complete_said said v l = (words said, said, v, l, refl)
 
 pub one_word : {A : Type 0} {most : Limits} {L : List Said → A → Type 0} (fit : Option Tok → Fit A) → Good A Always L (λ st. judged (fit (head st.left)) st) → Says L → Blind (λ o. is_unfit (fit o)) → Wants fit L
-    → Told A most L L (λ st. judged (fit (head st.left)) st) (λ limits st. judged (fit (head st.left)) st)
+    → Told A most L (λ what. L) (λ st. judged (fit (head st.left)) st) (λ limits st. judged (fit (head st.left)) st)
 one_word {A} {most} {L} fit good some blind wants =
     record {
       some = some;
-      grow = λ said v l. l;
+      grow = λ what said v l. l;
       ok = gone_good good;
       err = word_broken fit (λ limits st. judged (fit (head st.left)) st) blind (complete_said some.0 some.1 some.2) wants (λ limits s bad. bad);
     }

@@ -26,7 +26,7 @@ use Rattle.rule_reader.proofs.Told.{ends as ended}
 
 -- a reader that reads the same within all limits
 abbrev pub Single : (A : Type 0) → Limits → (List Said → A → Type 0) → (State → Read A) → Type 0
-Single A most L p = Told A most L L p (λ limits. p)
+Single A most L p = Told A most L (λ what. L) p (λ limits. p)
 
 -- ---- words of one kind
 
@@ -186,7 +186,7 @@ told_index bound =
     let said : List Said = naming (NumberTok one) bound 1 ∷ [] in
     record {
       some = (said, 1, says_index bound);
-      grow = λ s v l. l;
+      grow = λ what s v l. l;
       ok = gone_good (good_index bound);
       err = λ st f e.
           elim (bind_err (judged (whole_fit 9999 (head st.left)) st) _ f e) [
@@ -380,13 +380,13 @@ fails : (s : State) → (g : Fault) × (judged (variable_fit (head s.left)) s �
 unfolding variable_at
 fails s bad = fault_first (judged (variable_fit (head s.left)) s) (variable_behind (length s.left)) bad
 
-variable_err : (most : Limits) (b c : Bool) (st : State) (f : Fault) → is_letter false (head st.left) ≡ b → is_letter true (head st.left) ≡ c → variable_at st ≡ Err f → Broken (Bool × ℕ) most variable variable (λ limits. variable_at) st f
+variable_err : (most : Limits) (b c : Bool) (st : State) (f : Fault) → is_letter false (head st.left) ≡ b → is_letter true (head st.left) ≡ c → variable_at st ≡ Err f → Broken (Bool × ℕ) most variable (λ what. variable) (λ limits. variable_at) st f
 unfolding either
 variable_err most true c st f x y e =
-    broken_in st f ((told_parted false).err st f (sym (letter_same false st.left st.uses st.rule x) ∙ e)) (λ said v l. inr (inl l)) (λ said v l. inr (inl l))
+    broken_in st f ((told_parted false).err st f (sym (letter_same false st.left st.uses st.rule x) ∙ e)) (λ said v l. inr (inl l)) (λ what said v l. inr (inl l))
     (λ limits s like. inr (letter_same false s.left s.uses s.rule (blind_same (is_letter false) (blind_name (letter false ∷ [])) (head s.left) (head st.left) like ∙ x)))
 variable_err most false true st f x y e =
-    broken_in st f ((told_parted true).err st f (sym (letter_same true st.left st.uses st.rule y) ∙ e)) (λ said v l. inr (inr l)) (λ said v l. inr (inr l))
+    broken_in st f ((told_parted true).err st f (sym (letter_same true st.left st.uses st.rule y) ∙ e)) (λ said v l. inr (inr l)) (λ what said v l. inr (inr l))
     (λ limits s like. inr (letter_same true s.left s.uses s.rule (blind_same (is_letter true) (blind_name (letter true ∷ [])) (head s.left) (head st.left) like ∙ y)))
 variable_err most false false st f x y e =
     elim (bind_err (judged (variable_fit (head st.left)) st) (variable_behind (length st.left)) f (opened st f e)) [
@@ -400,7 +400,7 @@ told_variable : {most : Limits} → Single (Bool × ℕ) most variable variable_
 told_variable {most} =
     record {
       some = (naming (NameTok (88 ∷ 49 ∷ [])) Mapped 1 ∷ [], (false, 1), says_variable);
-      grow = λ said v l. l;
+      grow = λ what said v l. l;
       ok = gone_good good_variable;
       err = λ st f e. variable_err most (is_letter false (head st.left)) (is_letter true (head st.left)) st f refl refl e;
     }

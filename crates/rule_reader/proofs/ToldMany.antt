@@ -1,15 +1,14 @@
 -- Where the readers of many entries, of sections and of rules fail.
-use Rattle.std.proofs.Common.{pos, ◌≡◌, ℕ, zero, suc, ◌+◌, ◌<◌, ◌≤◌, Bool, true, false, cond, ltb, List, [], ◌∷◌, ◌++◌, length, Option, Some, None, Ok, Err, refl, sym, ap, subst, ◌∙◌, inl, inr, ◌⊎◌, arith}
+use Rattle.std.proofs.Common.{pos, ◌≡◌, ℕ, zero, suc, ◌+◌, ◌<◌, ◌≤◌, Bool, true, false, cond, eqb, ltb, List, [], ◌∷◌, ◌++◌, length, Option, Some, None, Ok, Err, refl, sym, ap, subst, ◌∙◌, inl, inr, ◌⊎◌, arith}
 use Rattle.std.proofs.lemmas.List.{append-nil}
 use Rattle.std.proofs.lemmas.Bool.{eqb-true}
+use Rattle.std.proofs.lemmas.Bool.Decides.{nat_tests}
 use Rattle.rule_reader.specs.declared.fault.Fault.{Fault}
 use Rattle.rule_reader.specs.declared.fault.Fault.TheVariants.{Syntax, TooMany}
 use Rattle.rule_reader.specs.declared.reader.Fit.TheVariants.{Fits, Unfit, NoNumber}
 use Rattle.rule_reader.specs.declared.reader.Use.{Use}
 use Rattle.rule_reader.specs.declared.reader.Bound.TheVariants.{Mapped, Any}
 use Rattle.rule_reader.specs.declared.rule.Term.{Term}
-use Rattle.rule_reader.specs.declared.rule.Place.{Place}
-use Rattle.rule_reader.specs.declared.rule.Rule.{Rule}
 use Rattle.rule_reader.specs.declared.sections.Parts.{Parts}
 use Rattle.rule_reader.specs.declared.sections.SectionKind.{SectionKind}
 use Rattle.rule_reader.specs.declared.sections.SectionKind.TheVariants as kind
@@ -25,29 +24,40 @@ use Rattle.rule_reader.proofs.GoodMany.{upto, more_of, more_is, is_open, entries
 use Rattle.rule_reader.proofs.GoodSections.{good_section_word, coordinates_head, ends_head, map_line_head, element_head}
 use Rattle.rule_reader.proofs.GoodFile.{short_name, named_takes}
 use Rattle.rule_reader.proofs.Within.{inner_terms_in, row_in, any_row_in, rows_in, place_in, content_in, section_word_at, section_in, sections_in, name_in, body_in}
-use Rattle.rule_reader.proofs.Told.{Blind, Like, Gone, Broken, Told, Says, Completes, IsFault, is_unfit, blind_same, bind_err, fault_first, fault_same, fault_not, gone_in, broken_in, gone_then, broken_first, broken_second, then, by_next, told_same, word_broken, complete_said, gone_good, grow_then}
+use Rattle.rule_reader.proofs.Told.{Blind, Like, past_like, past_same, Larger, extra, raised, Gone, Broken, Told, ToldIn, Follows, Says, Completes, IsFault, is_unfit, blind_same, bind_err, fault_first, fault_same, fault_not, gone_in, broken_in, gone_then, broken_first, broken_second, then, by_next, told_same, word_broken, complete_said, gone_good, grow_then}
 use Rattle.rule_reader.proofs.Told.{ends as ended}
 use Rattle.rule_reader.proofs.ToldEntries.{blind_mark, blind_name, wants_none, told_mark, told_name, told_quality, told_coordinates, told_map_point, told_map_line, told_pair, told_element, told_turn, told_term, nought, says_number, small_bound, says_variable}
 
--- one more of each
-abbrev pub raised : Limits → Limits
-raised most what = suc (most what)
-
--- ---- entries one after another
+-- ---- a series: entries one after another, up to a limit
 
 -- how a reader of entries goes on
-pub record Runs (A : Type 0) (e : ℕ → State → Read A) (test : Option Tok → Bool) (R : ℕ → ℕ → State → Read (List A)) : Type 0 where
-  pub full : (k : ℕ) (st : State) (x : List A × State) → test (head st.left) ≡ true → R k zero st ≡ Ok x → ⊥
-  pub more : (k room : ℕ) (st : State) → test (head st.left) ≡ true → R k (suc room) st ≡ (e k st >>= λ x. R (k + 1) room x.1 >>= λ xs. Ok (x.0 ∷ xs.0, xs.1))
-  pub stop : (k room : ℕ) (st : State) → test (head st.left) ≡ false → R k room st ≡ Ok ([], st)
+pub record Runs (A : Type 0) (entry : ℕ → State → Read A) (test : Option Tok → Bool) (run : ℕ → ℕ → State → Read (List A)) : Type 0 where
+  pub full : (k : ℕ) (st : State) (x : List A × State) → test (head st.left) ≡ true → run k zero st ≡ Ok x → ⊥
+  pub more : (k room : ℕ) (st : State) → test (head st.left) ≡ true → run k (suc room) st ≡ (entry k st >>= λ x. run (k + 1) room x.1 >>= λ xs. Ok (x.0 ∷ xs.0, xs.1))
+  pub stop : (k room : ℕ) (st : State) → test (head st.left) ≡ false → run k room st ≡ Ok ([], st)
 
-pub record Manys (A : Type 0) (most : Limits) (what : ℕ) (L M : ℕ → List Said → A → Type 0) (e : ℕ → State → Read A) (e2 : Limits → ℕ → State → Read A) (test : Option Tok → Bool) (R : ℕ → ℕ → State → Read (List A)) (R2 : Limits → ℕ → ℕ → State → Read (List A)) : Type 0 where
-  pub runs : Runs A e test R
-  pub others : (limits : Limits) → Runs A (e2 limits) test (R2 limits)
-  pub blind : Blind test
-  pub entry : (k : ℕ) → Told A most (L k) (M k) (e k) (λ limits. e2 limits k)
-  -- past the last that may be
-  pub past : (k : ℕ) (room : Limits → ℕ) (st : State) (f : Fault) → ((limits : Limits) → limits what ≡ most what → room limits ≡ zero) → test (head st.left) ≡ true → R k zero st ≡ Err f → Broken (List A) most (upto L k zero) (upto M k (suc zero)) (λ limits. R2 limits k (room limits)) st f
+-- the number of its limit; what one entry says, with k before it, and its reader; the reader of all, with k before and room for so many; and the test that one comes
+pub record Series (A : Type 0) : Type 1 where
+  pub what : ℕ
+  pub says : Limits → ℕ → List Said → A → Type 0
+  pub entry : Limits → ℕ → State → Read A
+  pub run : Limits → ℕ → ℕ → State → Read (List A)
+  pub test : Option Tok → Bool
+
+-- what so many entries say, at most, and what they say where the limit of a number is left aside
+abbrev pub Ones : {A : Type 0} → Series A → Limits → ℕ → ℕ → List Said → List A → Type 0
+Ones s most k room = upto (s.says most) k room
+
+abbrev pub More : {A : Type 0} → Series A → Limits → ℕ → ℕ → Larger (List A)
+More s most k room what = Ones s (raised what most) k (room + extra what s.what)
+
+-- a series whose entries are told, and of which it is known how it fails past the last entry that may be
+pub record ToldSeries (A : Type 0) (most : Limits) (s : Series A) : Type 0 where
+  pub runs : (limits : Limits) → Runs A (s.entry limits) s.test (s.run limits)
+  pub blind : Blind s.test
+  pub told : (k : ℕ) → ToldIn most (λ limits. s.says limits k) (λ limits. s.entry limits k)
+  pub past : (k : ℕ) (room : Limits → ℕ) (st : State) (f : Fault) → ((limits : Limits) → limits s.what ≡ most s.what → room limits ≡ zero) → s.test (head st.left) ≡ true → s.run most k zero st ≡ Err f
+      → Broken (List A) most (Ones s most k zero) (More s most k zero) (λ limits. s.run limits k (room limits)) st f
 
 pred : ℕ → ℕ
 pred zero = zero
@@ -63,23 +73,24 @@ unfolding many
 many_grow L M grow k said [] l = l
 many_grow L M grow k said (x ∷ xs) l = (l.0, l.1, grow k l.0 x l.2, many_grow L M grow (k + 1) l.1 xs l.3, l.4)
 
-one_more : (a b : ℕ) → a ≤ b → a ≤ suc b
-one_more a b h = omega arith
+and_more : (a b c : ℕ) → a ≤ b → a ≤ b + c
+and_more a b c h = omega arith
 
-upto_grow : {A : Type 0} (L M : ℕ → List Said → A → Type 0) → ((k : ℕ) (said : List Said) (v : A) → L k said v → M k said v) → (k room : ℕ) (said : List Said) (xs : List A) → upto L k room said xs → upto M k (suc room) said xs
-upto_grow L M grow k room said xs l = (many_grow L M grow k said xs l.0, one_more (length xs) room l.1)
+upto_grow : {A : Type 0} (L M : ℕ → List Said → A → Type 0) → ((k : ℕ) (said : List Said) (v : A) → L k said v → M k said v) → (k room others : ℕ) (said : List Said) (xs : List A) → upto L k room said xs → upto M k (room + others) said xs
+upto_grow L M grow k room others said xs l = (many_grow L M grow k said xs l.0, and_more (length xs) room others l.1)
 
+-- one entry, and then the others
 abbrev Twin : {A : Type 0} → (ℕ → State → Read A) → (ℕ → ℕ → State → Read (List A)) → ℕ → ℕ → State → Read (List A)
-Twin e R k room = e k ▸ λ x. R (k + 1) room ▸ λ xs. pure (x ∷ xs)
+Twin entry run k room = entry k ▸ λ x. run (k + 1) room ▸ λ xs. pure (x ∷ xs)
 
-twin_is : (A : Type 0) (e : ℕ → State → Read A) (test : Option Tok → Bool) (R : ℕ → ℕ → State → Read (List A)) → Runs A e test R → (k room : ℕ) (st : State) → test (head st.left) ≡ true → R k (suc room) st ≡ Twin e R k room st
+twin_is : (A : Type 0) (entry : ℕ → State → Read A) (test : Option Tok → Bool) (run : ℕ → ℕ → State → Read (List A)) → Runs A entry test run → (k room : ℕ) (st : State) → test (head st.left) ≡ true → run k (suc room) st ≡ Twin entry run k room st
 unfolding ◌▸◌ pure
-twin_is A e test R runs k room st t = runs.more k room st t
+twin_is A entry test run runs k room st t = runs.more k room st t
 
-follows_twin : (A : Type 0) (e : ℕ → State → Read A) (test : Option Tok → Bool) (R : ℕ → ℕ → State → Read (List A)) → Runs A e test R → (k room : ℕ) (s : State) → test (head s.left) ≡ true → IsFault (R k room s) ⊎ (R k room s ≡ Twin e R k (pred room) s)
+follows_twin : (A : Type 0) (entry : ℕ → State → Read A) (test : Option Tok → Bool) (run : ℕ → ℕ → State → Read (List A)) → Runs A entry test run → (k room : ℕ) (s : State) → test (head s.left) ≡ true → IsFault (run k room s) ⊎ (run k room s ≡ Twin entry run k (pred room) s)
 unfolding pred
-follows_twin A e test R runs k zero s t = inl (fault_not (R k zero s) (λ x e. runs.full k s x t e))
-follows_twin A e test R runs k (suc room) s t = inr (twin_is A e test R runs k room s t)
+follows_twin A entry test run runs k zero s t = inl (fault_not (run k zero s) (λ x e. runs.full k s x t e))
+follows_twin A entry test run runs k (suc room) s t = inr (twin_is A entry test run runs k room s t)
 
 nothing_upto : {A : Type 0} (L : ℕ → List Said → A → Type 0) (k room : ℕ) (said : List Said) (v : List A) → done [] said v → upto L k room said v
 unfolding done many
@@ -93,58 +104,71 @@ pure_ok : {A : Type 0} (x : List A) (r : Read (List A)) (st : State) → r ≡ O
 unfolding pure
 pure_ok x r st e = e
 
-stopped : (A : Type 0) (most : Limits) (what : ℕ) (L M : ℕ → List Said → A → Type 0) (e : ℕ → State → Read A) (e2 : Limits → ℕ → State → Read A) (test : Option Tok → Bool) (R : ℕ → ℕ → State → Read (List A)) (R2 : Limits → ℕ → ℕ → State → Read (List A)) → Manys A most what L M e e2 test R R2
-    → (k room : ℕ) (room2 : Limits → ℕ) (st : State) (v : List A) (st2 : State) → test (head st.left) ≡ false → R k room st ≡ Ok (v, st2) → Gone (List A) (upto L k room) (λ limits. R2 limits k (room2 limits)) st v st2
-stopped A most what L M e e2 test R R2 m k room room2 st v st2 t read =
-    gone_in st v st2 ((ended {most = most} []).ok st v st2 (sym (pure_ok [] (R k room st) st (m.runs.stop k room st t)) ∙ read)) (nothing_upto L k room)
-    (λ limits s like. inr (pure_ok [] (R2 limits k (room2 limits) s) s ((m.others limits).stop k (room2 limits) s (blind_same test m.blind (head s.left) (head st.left) like ∙ t))))
-
 pub not_both : {A : Type 0} (x : A) (f : Fault) → okay x ≡ Err f → ⊥
 not_both x f e = cc
 
-abbrev ManyTold : (A : Type 0) (most : Limits) (L M : ℕ → List Said → A → Type 0) (R : ℕ → ℕ → State → Read (List A)) (R2 : Limits → ℕ → ℕ → State → Read (List A)) → ℕ → ℕ → (Limits → ℕ) → Type 0
-ManyTold A most L M R R2 k room room2 = Told (List A) most (upto L k room) (upto M k (suc room)) (R k room) (λ limits. R2 limits k (room2 limits))
+-- a reader within its own limits, where there is room for so many, beside readers within other limits
+abbrev RunTold : (A : Type 0) → Limits → Series A → ℕ → ℕ → (Limits → ℕ) → Type 0
+RunTold A most s k room room2 = Told (List A) most (Ones s most k room) (More s most k room) (s.run most k room) (λ limits. s.run limits k (room2 limits))
 
-twin_told : (A : Type 0) (most : Limits) (what : ℕ) (L M : ℕ → List Said → A → Type 0) (e : ℕ → State → Read A) (e2 : Limits → ℕ → State → Read A) (test : Option Tok → Bool) (R : ℕ → ℕ → State → Read (List A)) (R2 : Limits → ℕ → ℕ → State → Read (List A)) → Manys A most what L M e e2 test R R2
-    → (k room : ℕ) (room2 : Limits → ℕ) → ManyTold A most L M R R2 (k + 1) room room2 → Told (List A) most (more_of L k room) (more_of M k (suc room)) (Twin e R k room) (λ limits. Twin (e2 limits) (R2 limits) k (room2 limits))
-twin_told A most what L M e e2 test R R2 m k room room2 others = then (m.entry k) (λ x. then others (λ xs. ended (x ∷ xs)))
+-- where no entry comes
+stopped : (A : Type 0) (most : Limits) (s : Series A) → ToldSeries A most s → (k room : ℕ) (room2 : Limits → ℕ) (st : State) (v : List A) (st2 : State) → s.test (head st.left) ≡ false → s.run most k room st ≡ Ok (v, st2)
+    → Gone (List A) (Ones s most k room) (λ limits. s.run limits k (room2 limits)) st v st2
+stopped A most s m k room room2 st v st2 t read =
+    gone_in st v st2 ((ended {most = most} []).ok st v st2 (sym (pure_ok [] (s.run most k room st) st ((m.runs most).stop k room st t)) ∙ read)) (nothing_upto (s.says most) k room)
+    (λ limits q like. inr (pure_ok [] (s.run limits k (room2 limits) q) q ((m.runs limits).stop k (room2 limits) q (blind_same s.test m.blind (head q.left) (head st.left) like ∙ t))))
 
-many_ok : (A : Type 0) (most : Limits) (what : ℕ) (L M : ℕ → List Said → A → Type 0) (e : ℕ → State → Read A) (e2 : Limits → ℕ → State → Read A) (test : Option Tok → Bool) (R : ℕ → ℕ → State → Read (List A)) (R2 : Limits → ℕ → ℕ → State → Read (List A)) → Manys A most what L M e e2 test R R2
-    → (k room : ℕ) (room2 : Limits → ℕ) (b : Bool) (st : State) (v : List A) (st2 : State) → test (head st.left) ≡ b → R k room st ≡ Ok (v, st2) → ((less : ℕ) → room ≡ suc less → ManyTold A most L M R R2 (k + 1) less (λ limits. pred (room2 limits))) → Gone (List A) (upto L k room) (λ limits. R2 limits k (room2 limits)) st v st2
-many_ok A most what L M e e2 test R R2 m k room room2 false st v st2 t read others = stopped A most what L M e e2 test R R2 m k room room2 st v st2 t read
-many_ok A most what L M e e2 test R R2 m k zero room2 true st v st2 t read others = absurd (m.runs.full k st (v, st2) t read)
-many_ok A most what L M e e2 test R R2 m k (suc room) room2 true st v st2 t read others =
-    let twin = twin_told A most what L M e e2 test R R2 m k room (λ limits. pred (room2 limits)) (others room refl) in
-    gone_in st v st2 (twin.ok st v st2 (sym (twin_is A e test R m.runs k room st t) ∙ read)) (more_is L k room)
-    (λ limits s like. follows_twin A (e2 limits) test (R2 limits) (m.others limits) k (room2 limits) s (blind_same test m.blind (head s.left) (head st.left) like ∙ t))
+-- where one comes, and the others are told
+twin_told : (A : Type 0) (most : Limits) (s : Series A) → ToldSeries A most s → (k room : ℕ) (room2 : Limits → ℕ) → RunTold A most s (k + 1) room room2
+    → Told (List A) most (more_of (s.says most) k room) (λ what. more_of (s.says (raised what most)) k (room + extra what s.what)) (Twin (s.entry most) (s.run most) k room) (λ limits. Twin (s.entry limits) (s.run limits) k (room2 limits))
+twin_told A most s m k room room2 others = then (m.told k) (λ x. then others (λ xs. ended (x ∷ xs)))
 
-many_err : (A : Type 0) (most : Limits) (what : ℕ) (L M : ℕ → List Said → A → Type 0) (e : ℕ → State → Read A) (e2 : Limits → ℕ → State → Read A) (test : Option Tok → Bool) (R : ℕ → ℕ → State → Read (List A)) (R2 : Limits → ℕ → ℕ → State → Read (List A)) → Manys A most what L M e e2 test R R2
-    → (k room : ℕ) (room2 : Limits → ℕ) (b : Bool) (st : State) (f : Fault) → ((limits : Limits) → limits what ≡ most what → room2 limits ≡ room) → test (head st.left) ≡ b → R k room st ≡ Err f → ((less : ℕ) → room ≡ suc less → ManyTold A most L M R R2 (k + 1) less (λ limits. pred (room2 limits))) → Broken (List A) most (upto L k room) (upto M k (suc room)) (λ limits. R2 limits k (room2 limits)) st f
-many_err A most what L M e e2 test R R2 m k room room2 false st f agree t read others = absurd (not_both ([], st) f (sym (m.runs.stop k room st t) ∙ read))
-many_err A most what L M e e2 test R R2 m k zero room2 true st f agree t read others = m.past k room2 st f agree t read
-many_err A most what L M e e2 test R R2 m k (suc room) room2 true st f agree t read others =
-    let twin = twin_told A most what L M e e2 test R R2 m k room (λ limits. pred (room2 limits)) (others room refl) in
-    broken_in st f (twin.err st f (sym (twin_is A e test R m.runs k room st t) ∙ read)) (more_is L k room) (more_is M k (suc room))
-    (λ limits s like. follows_twin A (e2 limits) test (R2 limits) (m.others limits) k (room2 limits) s (blind_same test m.blind (head s.left) (head st.left) like ∙ t))
+follows_run : (A : Type 0) (most : Limits) (s : Series A) → ToldSeries A most s → (k : ℕ) (room2 : Limits → ℕ) (st : State) → s.test (head st.left) ≡ true
+    → Follows (λ limits. s.run limits k (room2 limits)) (λ limits. Twin (s.entry limits) (s.run limits) k (pred (room2 limits))) st
+follows_run A most s m k room2 st t limits q like = follows_twin A (s.entry limits) s.test (s.run limits) (m.runs limits) k (room2 limits) q (blind_same s.test m.blind (head q.left) (head st.left) like ∙ t)
 
-pub told_many : (A : Type 0) (most : Limits) (what : ℕ) (L M : ℕ → List Said → A → Type 0) (e : ℕ → State → Read A) (e2 : Limits → ℕ → State → Read A) (test : Option Tok → Bool) (R : ℕ → ℕ → State → Read (List A)) (R2 : Limits → ℕ → ℕ → State → Read (List A)) → Manys A most what L M e e2 test R R2
-    → (room : ℕ) (room2 : Limits → ℕ) (k : ℕ) → ((limits : Limits) → limits what ≡ most what → room2 limits ≡ room) → ManyTold A most L M R R2 k room room2
-told_many A most what L M e e2 test R R2 m zero room2 k agree =
+run_ok : (A : Type 0) (most : Limits) (s : Series A) → ToldSeries A most s → (k room : ℕ) (room2 : Limits → ℕ) (b : Bool) (st : State) (v : List A) (st2 : State) → s.test (head st.left) ≡ b → s.run most k room st ≡ Ok (v, st2)
+    → ((less : ℕ) → room ≡ suc less → RunTold A most s (k + 1) less (λ limits. pred (room2 limits))) → Gone (List A) (Ones s most k room) (λ limits. s.run limits k (room2 limits)) st v st2
+run_ok A most s m k room room2 false st v st2 t read others = stopped A most s m k room room2 st v st2 t read
+run_ok A most s m k zero room2 true st v st2 t read others = absurd ((m.runs most).full k st (v, st2) t read)
+run_ok A most s m k (suc room) room2 true st v st2 t read others =
+    let twin = twin_told A most s m k room (λ limits. pred (room2 limits)) (others room refl) in
+    gone_in st v st2 (twin.ok st v st2 (sym (twin_is A (s.entry most) s.test (s.run most) (m.runs most) k room st t) ∙ read)) (more_is (s.says most) k room) (follows_run A most s m k room2 st t)
+
+more_than : {A : Type 0} (L : ℕ → List Said → A → Type 0) (k room others : ℕ) (said : List Said) (v : List A) → more_of L k (room + others) said v → upto L k (suc room + others) said v
+more_than L k room others said v l = let n : suc (room + others) ≡ suc room + others = omega arith in subst (λ (n : ℕ). upto L k n said v) n (more_is L k (room + others) said v l)
+
+run_err : (A : Type 0) (most : Limits) (s : Series A) → ToldSeries A most s → (k room : ℕ) (room2 : Limits → ℕ) (b : Bool) (st : State) (f : Fault) → ((limits : Limits) → limits s.what ≡ most s.what → room2 limits ≡ room) → s.test (head st.left) ≡ b → s.run most k room st ≡ Err f
+    → ((less : ℕ) → room ≡ suc less → RunTold A most s (k + 1) less (λ limits. pred (room2 limits))) → Broken (List A) most (Ones s most k room) (More s most k room) (λ limits. s.run limits k (room2 limits)) st f
+run_err A most s m k room room2 false st f agree t read others = absurd (not_both ([], st) f (sym ((m.runs most).stop k room st t) ∙ read))
+run_err A most s m k zero room2 true st f agree t read others = m.past k room2 st f agree t read
+run_err A most s m k (suc room) room2 true st f agree t read others =
+    let twin = twin_told A most s m k room (λ limits. pred (room2 limits)) (others room refl) in
+    broken_in st f (twin.err st f (sym (twin_is A (s.entry most) s.test (s.run most) (m.runs most) k room st t) ∙ read)) (more_is (s.says most) k room) (λ what. more_than (s.says (raised what most)) k room (extra what s.what)) (follows_run A most s m k room2 st t)
+
+-- by the room that is left
+told_run : (A : Type 0) (most : Limits) (s : Series A) → ToldSeries A most s → (room : ℕ) (room2 : Limits → ℕ) (k : ℕ) → ((limits : Limits) → limits s.what ≡ most s.what → room2 limits ≡ room) → RunTold A most s k room room2
+told_run A most s m zero room2 k agree =
     record {
-      some = ([], [], says_none L k zero);
-      grow = upto_grow L M (λ k. (m.entry k).grow) k zero;
-      ok = λ st v st2 read. many_ok A most what L M e e2 test R R2 m k zero room2 (test (head st.left)) st v st2 refl read (λ less e. absurd (omega arith));
-      err = λ st f read. many_err A most what L M e e2 test R R2 m k zero room2 (test (head st.left)) st f agree refl read (λ less e. absurd (omega arith));
+      some = ([], [], says_none (s.says most) k zero);
+      grow = λ what. upto_grow (s.says most) (s.says (raised what most)) (λ k. (m.told k).grow what) k zero (extra what s.what);
+      ok = λ st v st2 read. run_ok A most s m k zero room2 (s.test (head st.left)) st v st2 refl read (λ less e. absurd (omega arith));
+      err = λ st f read. run_err A most s m k zero room2 (s.test (head st.left)) st f agree refl read (λ less e. absurd (omega arith));
     }
-told_many A most what L M e e2 test R R2 m (suc room) room2 k agree =
-    let inner = told_many A most what L M e e2 test R R2 m room (λ limits. pred (room2 limits)) (k + 1) (λ limits. agree_pred (limits what ≡ most what) (room2 limits) room (agree limits)) in
-    let others : (less : ℕ) → suc room ≡ suc less → ManyTold A most L M R R2 (k + 1) less (λ limits. pred (room2 limits)) = λ less same. subst (λ (n : ℕ). ManyTold A most L M R R2 (k + 1) n (λ limits. pred (room2 limits))) (omega arith) inner in
+told_run A most s m (suc room) room2 k agree =
+    let inner = told_run A most s m room (λ limits. pred (room2 limits)) (k + 1) (λ limits. agree_pred (limits s.what ≡ most s.what) (room2 limits) room (agree limits)) in
+    let others : (less : ℕ) → suc room ≡ suc less → RunTold A most s (k + 1) less (λ limits. pred (room2 limits)) = λ less same. subst (λ (n : ℕ). RunTold A most s (k + 1) n (λ limits. pred (room2 limits))) (omega arith) inner in
     record {
-      some = ([], [], says_none L k (suc room));
-      grow = upto_grow L M (λ k. (m.entry k).grow) k (suc room);
-      ok = λ st v st2 read. many_ok A most what L M e e2 test R R2 m k (suc room) room2 (test (head st.left)) st v st2 refl read others;
-      err = λ st f read. many_err A most what L M e e2 test R R2 m k (suc room) room2 (test (head st.left)) st f agree refl read others;
+      some = ([], [], says_none (s.says most) k (suc room));
+      grow = λ what. upto_grow (s.says most) (s.says (raised what most)) (λ k. (m.told k).grow what) k (suc room) (extra what s.what);
+      ok = λ st v st2 read. run_ok A most s m k (suc room) room2 (s.test (head st.left)) st v st2 refl read others;
+      err = λ st f read. run_err A most s m k (suc room) room2 (s.test (head st.left)) st f agree refl read others;
     }
+
+-- a series from its beginning
+told_series : (A : Type 0) (most : Limits) (s : Series A) → ToldSeries A most s → ToldIn most (λ limits. at_most (limits s.what) (s.says limits)) (λ limits. s.run limits 0 (limits s.what))
+unfolding at_most
+told_series A most s m = told_run A most s m (most s.what) (λ limits. limits s.what) 0 (λ limits same. same)
 
 -- ---- entries in round brackets
 
@@ -176,32 +200,47 @@ single_upto : {A : Type 0} (L : ℕ → List Said → A → Type 0) (k : ℕ) (s
 unfolding many
 single_upto L k said v l = ((said, [], l, refl, sym (append-nil said)), omega arith)
 
-entries_past : (A : Type 0) (most : Limits) (what : ℕ) → (1 < what) × (what < 10) → (L M : ℕ → List Said → A → Type 0) (e : ℕ → State → Read A) (e2 : Limits → ℕ → State → Read A) → ((k : ℕ) → Told A most (L k) (M k) (e k) (λ limits. e2 limits k)) → ((k : ℕ) (said : List Said) (v : A) (more : List Tok) → L k said v → head (words said ++ more) ≡ Some (MarkTok 40))
-    → (k : ℕ) (room : Limits → ℕ) (st : State) (f : Fault) → ((limits : Limits) → limits what ≡ most what → room limits ≡ zero) → is_open (head st.left) ≡ true → entries_at e what k zero st ≡ Err f → Broken (List A) most (upto L k zero) (upto M k (suc zero)) (λ limits. entries_at (e2 limits) what k (room limits)) st f
-entries_past A most what few L M e e2 told begins k room st f agree t read =
+-- where its own limit is left aside, one entry may come past the last
+extra_one : (what : ℕ) → suc zero ≡ zero + extra what what
+extra_one what = rw (eqb_same what) refl
+  where
+    eqb_same : (n : ℕ) → eqb n n ≡ true
+    eqb_same n = grind (arith, nat_tests)
+
+-- entries of this kind, as a section has them
+abbrev entries_of : {A : Type 0} → ℕ → (Limits → ℕ → List Said → A → Type 0) → (Limits → ℕ → State → Read A) → Series A
+entries_of what says entry = record { what = what; says = says; entry = entry; run = λ limits k room. entries_at (entry limits) what k room; test = is_open }
+
+-- each entry begins with an opening bracket
+abbrev Opens : {A : Type 0} → (ℕ → List Said → A → Type 0) → Type 0
+Opens {A} L = (k : ℕ) (said : List Said) (v : A) (more : List Tok) → L k said v → head (words said ++ more) ≡ Some (MarkTok 40)
+
+entries_past : (A : Type 0) (most : Limits) (what : ℕ) → (1 < what) × (what < 10) → (says : Limits → ℕ → List Said → A → Type 0) (entry : Limits → ℕ → State → Read A) → ((k : ℕ) → ToldIn most (λ limits. says limits k) (λ limits. entry limits k)) → Opens (says most)
+    → (k : ℕ) (room : Limits → ℕ) (st : State) (f : Fault) → ((limits : Limits) → limits what ≡ most what → room limits ≡ zero) → is_open (head st.left) ≡ true → entries_at (entry most) what k zero st ≡ Err f
+    → Broken (List A) most (Ones (entries_of what says entry) most k zero) (More (entries_of what says entry) most k zero) (λ limits. entries_at (entry limits) what k (room limits)) st f
+entries_past A most what few says entry told begins k room st f agree t read =
     let next = mark_next 40 st.left t in
     let some = (told k).some in
     let first = head_next (words some.0 ++ []) (MarkTok 40) (begins k some.0 some.1 [] some.2) in
-    let b : Broken (List A) most (upto L k zero) (upto M k (suc zero)) (λ limits. entries_at (e2 limits) what k (room limits)) st (TooMany st.rule what) = record {
+    let larger = says (raised what most) in
+    let one : upto larger k (zero + extra what what) some.0 (some.1 ∷ []) = subst (λ (n : ℕ). upto larger k n some.0 (some.1 ∷ [])) (extra_one what) (single_upto larger k some.0 some.1 ((told k).grow what some.0 some.1 some.2)) in
+    let b : Broken (List A) most (Ones (entries_of what says entry) most k zero) (More (entries_of what says entry) most k zero) (λ limits. entries_at (entry limits) what k (room limits)) st (TooMany st.rule what) = record {
       used = [];
       rest = st.left;
       left = refl;
-      front = inl (complete_said [] [] (says_none L k zero));
+      front = inl (complete_said [] [] (says_none (says most) k zero));
       stop = λ limits s c left stopping.
-          let open_too : is_open (head s.left) ≡ true = ap (λ (ts : List Tok). is_open (head ts)) left ∙ ap is_open stopping.0 ∙ t in
-          let none : IsFault (entries_at (e2 limits) what k zero s) = fault_not (entries_at (e2 limits) what k zero s) (λ x read. entries_full (e2 limits) what k s x open_too read) in
-          fault_same (entries_at (e2 limits) what k zero s) (entries_at (e2 limits) what k (room limits) s) (ap (λ (n : ℕ). entries_at (e2 limits) what k n s) (agree limits stopping.1)) none;
-      kind = (MarkTok 40, next.0, MarkTok 40, next.1, refl, refl, (first.0, some.0, some.1 ∷ [], single_upto M k some.0 some.1 ((told k).grow some.0 some.1 some.2), sym (append-nil (words some.0)) ∙ first.1), AtEntry few.0 few.1 refl);
+          let open_too : is_open (head s.left) ≡ true = ap (λ (ts : List Tok). is_open (head ts)) left ∙ blind_same is_open (blind_mark 40) (head c) (head st.left) (past_like what (head c) (head st.left) stopping.0) ∙ t in
+          let none : IsFault (entries_at (entry limits) what k zero s) = fault_not (entries_at (entry limits) what k zero s) (λ x read. entries_full (entry limits) what k s x open_too read) in
+          fault_same (entries_at (entry limits) what k zero s) (entries_at (entry limits) what k (room limits) s) (ap (λ (n : ℕ). entries_at (entry limits) what k n s) (agree limits stopping.1)) none;
+      kind = (MarkTok 40, next.0, MarkTok 40, next.1, refl, refl, (first.0, some.0, some.1 ∷ [], one, sym (append-nil (words some.0)) ∙ first.1), AtEntry few.0 few.1 refl);
     } in
-    subst (λ (g : Fault). Broken (List A) most (upto L k zero) (upto M k (suc zero)) (λ limits. entries_at (e2 limits) what k (room limits)) st g) (full_is A e what k st f t read) b
+    subst (λ (g : Fault). Broken (List A) most (Ones (entries_of what says entry) most k zero) (More (entries_of what says entry) most k zero) (λ limits. entries_at (entry limits) what k (room limits)) st g) (full_is A (entry most) what k st f t read) b
 
-told_entries : (A : Type 0) (most : Limits) (what : ℕ) → (1 < what) × (what < 10) → (L M : ℕ → List Said → A → Type 0) (e : ℕ → State → Read A) (e2 : Limits → ℕ → State → Read A) → ((k : ℕ) → Told A most (L k) (M k) (e k) (λ limits. e2 limits k)) → ((k : ℕ) (said : List Said) (v : A) (more : List Tok) → L k said v → head (words said ++ more) ≡ Some (MarkTok 40))
-    → Told (List A) most (at_most (most what) L) (at_most (raised most what) M) (entries_at e what 0 (most what)) (λ limits. entries_at (e2 limits) what 0 (limits what))
-unfolding at_most
-told_entries A most what few L M e e2 told begins =
-    told_many A most what L M e e2 is_open (λ k room. entries_at e what k room) (λ limits k room. entries_at (e2 limits) what k room)
-    (record { runs = runs_entries A e what; others = λ limits. runs_entries A (e2 limits) what; blind = blind_mark 40; entry = told; past = entries_past A most what few L M e e2 told begins })
-    (most what) (λ limits. limits what) 0 (λ limits same. same)
+told_entries : (A : Type 0) (most : Limits) (what : ℕ) → (1 < what) × (what < 10) → (says : Limits → ℕ → List Said → A → Type 0) (entry : Limits → ℕ → State → Read A) → ((k : ℕ) → ToldIn most (λ limits. says limits k) (λ limits. entry limits k)) → Opens (says most)
+    → ToldIn most (λ limits. at_most (limits what) (says limits)) (λ limits. entries_at (entry limits) what 0 (limits what))
+told_entries A most what few says entry told begins =
+    told_series A most (entries_of what says entry) (record { runs = λ limits. runs_entries A (entry limits) what; blind = blind_mark 40; told = told; past = entries_past A most what few says entry told begins })
 
 -- ---- terms
 
@@ -269,11 +308,15 @@ past_is left uses rule f read = cc
 at_comma : (room : ℕ) (s : State) (c : List Tok) → s.left ≡ MarkTok 44 ∷ c → rest_terms room s ≡ rest_terms room (st_of (MarkTok 44 ∷ c) s.uses s.rule)
 at_comma room s c left = ap (λ (ts : List Tok). rest_terms room (st_of ts s.uses s.rule)) left
 
+-- the terms behind the first of a row
+abbrev comma_terms : Series Term
+comma_terms = record { what = 10; says = λ limits. comma_term; entry = λ limits k. mark_at 44 ▸ λ c. term_at; run = λ limits k room. rest_terms room; test = is_comma }
+
 terms_past_by : (most : Limits) (k : ℕ) (room : Limits → ℕ) (left : List Tok) (uses : List Use) (rule : ℕ) (f : Fault) (b : Bool) → ((limits : Limits) → limits 10 ≡ most 10 → room limits ≡ zero) → is_number (head left) ≡ b → cond b (TooMany rule 10) (Syntax (length left)) ≡ f
-    → Broken (List Term) most (upto comma_term k zero) (upto comma_term k (suc zero)) (λ limits. rest_terms (room limits)) (st_of (MarkTok 44 ∷ left) uses rule) f
+    → Broken (List Term) most (upto comma_term k zero) (More comma_terms most k zero) (λ limits. rest_terms (room limits)) (st_of (MarkTok 44 ∷ left) uses rule) f
 terms_past_by most k room left uses rule f true agree t is =
     let next = number_next left t in
-    let b : Broken (List Term) most (upto comma_term k zero) (upto comma_term k (suc zero)) (λ limits. rest_terms (room limits)) (st_of (MarkTok 44 ∷ left) uses rule) (TooMany rule 10) = record {
+    let b : Broken (List Term) most (upto comma_term k zero) (More comma_terms most k zero) (λ limits. rest_terms (room limits)) (st_of (MarkTok 44 ∷ left) uses rule) (TooMany rule 10) = record {
       used = MarkTok 44 ∷ [];
       rest = left;
       left = refl;
@@ -283,9 +326,9 @@ terms_past_by most k room left uses rule f true agree t is =
           fault_same (rest_terms zero (st_of (MarkTok 44 ∷ c) s.uses s.rule)) (rest_terms (room limits) s) (at_comma (room limits) s c here ∙ ap (λ (n : ℕ). rest_terms n (st_of (MarkTok 44 ∷ c) s.uses s.rule)) (agree limits stopping.1)) none;
       kind = (NumberTok next.0, next.1, NumberTok nought, next.2, refl, refl, number_front k, AtTerm next.0 refl refl);
     } in
-    subst (λ (g : Fault). Broken (List Term) most (upto comma_term k zero) (upto comma_term k (suc zero)) (λ limits. rest_terms (room limits)) (st_of (MarkTok 44 ∷ left) uses rule) g) is b
+    subst (λ (g : Fault). Broken (List Term) most (upto comma_term k zero) (More comma_terms most k zero) (λ limits. rest_terms (room limits)) (st_of (MarkTok 44 ∷ left) uses rule) g) is b
 terms_past_by most k room left uses rule f false agree t is =
-    let b : Broken (List Term) most (upto comma_term k zero) (upto comma_term k (suc zero)) (λ limits. rest_terms (room limits)) (st_of (MarkTok 44 ∷ left) uses rule) (Syntax (length left)) = record {
+    let b : Broken (List Term) most (upto comma_term k zero) (More comma_terms most k zero) (λ limits. rest_terms (room limits)) (st_of (MarkTok 44 ∷ left) uses rule) (Syntax (length left)) = record {
       used = MarkTok 44 ∷ [];
       rest = left;
       left = refl;
@@ -294,70 +337,66 @@ terms_past_by most k room left uses rule f false agree t is =
           fault_same (rest_terms (room limits) (st_of (MarkTok 44 ∷ c) s.uses s.rule)) (rest_terms (room limits) s) (at_comma (room limits) s c here) (no_rest (room limits) c s.uses s.rule (blind_same is_number blind_number (head c) (head left) like ∙ t));
       kind = refl;
     } in
-    subst (λ (g : Fault). Broken (List Term) most (upto comma_term k zero) (upto comma_term k (suc zero)) (λ limits. rest_terms (room limits)) (st_of (MarkTok 44 ∷ left) uses rule) g) is b
+    subst (λ (g : Fault). Broken (List Term) most (upto comma_term k zero) (More comma_terms most k zero) (λ limits. rest_terms (room limits)) (st_of (MarkTok 44 ∷ left) uses rule) g) is b
 
-terms_past : (most : Limits) (k : ℕ) (room : Limits → ℕ) (st : State) (f : Fault) → ((limits : Limits) → limits 10 ≡ most 10 → room limits ≡ zero) → is_comma (head st.left) ≡ true → rest_terms zero st ≡ Err f → Broken (List Term) most (upto comma_term k zero) (upto comma_term k (suc zero)) (λ limits. rest_terms (room limits)) st f
+terms_past : (most : Limits) (k : ℕ) (room : Limits → ℕ) (st : State) (f : Fault) → ((limits : Limits) → limits 10 ≡ most 10 → room limits ≡ zero) → is_comma (head st.left) ≡ true → rest_terms zero st ≡ Err f → Broken (List Term) most (upto comma_term k zero) (More comma_terms most k zero) (λ limits. rest_terms (room limits)) st f
 terms_past most k room st f agree t read =
     let next = mark_next 44 st.left t in
     let is : cond (is_number (head next.0)) (TooMany st.rule 10) (Syntax (length next.0)) ≡ f = past_is next.0 st.uses st.rule f (sym (at_comma zero st next.0 next.1) ∙ read) in
-    subst (λ (ts : List Tok). Broken (List Term) most (upto comma_term k zero) (upto comma_term k (suc zero)) (λ limits. rest_terms (room limits)) (st_of ts st.uses st.rule) f) (sym next.1)
+    subst (λ (ts : List Tok). Broken (List Term) most (upto comma_term k zero) (More comma_terms most k zero) (λ limits. rest_terms (room limits)) (st_of ts st.uses st.rule) f) (sym next.1)
     (terms_past_by most k room next.0 st.uses st.rule f (is_number (head next.0)) agree refl is)
 
-told_rest : (most : Limits) → Told (List Term) most (at_most (most 10) comma_term) (at_most (raised most 10) comma_term) (rest_terms (most 10)) (λ limits. rest_terms (limits 10))
-unfolding at_most
-told_rest most =
-    told_many Term most 10 comma_term comma_term (λ k. mark_at 44 ▸ λ c. term_at) (λ limits k. mark_at 44 ▸ λ c. term_at) is_comma (λ k room. rest_terms room) (λ limits k room. rest_terms room)
-    (record { runs = runs_terms; others = λ limits. runs_terms; blind = blind_mark 44; entry = λ k. then (told_mark 44) (λ c. told_term); past = terms_past most })
-    (most 10) (λ limits. limits 10) 0 (λ limits same. same)
+told_rest : (most : Limits) → ToldIn most (λ limits. at_most (limits 10) comma_term) (λ limits. rest_terms (limits 10))
+told_rest most = told_series Term most comma_terms (record { runs = λ limits. runs_terms; blind = blind_mark 44; told = λ k. then (told_mark 44) (λ c. told_term); past = terms_past most })
 
-twin_terms : (most : Limits) → Told (List Term) most (terms most) (terms (raised most)) (term_at ▸ λ t. rest_terms (most 10) ▸ λ ts. pure (t ∷ ts)) (λ limits. term_at ▸ λ t. rest_terms (limits 10) ▸ λ ts. pure (t ∷ ts))
+twin_terms : (most : Limits) → ToldIn most terms (λ limits. term_at ▸ λ t. rest_terms (limits 10) ▸ λ ts. pure (t ∷ ts))
 twin_terms most = then told_term (λ t. then (told_rest most) (λ ts. ended (t ∷ ts)))
 
-told_terms : (most : Limits) → Told (List Term) most (terms most) (terms (raised most)) (terms_at (suc (most 10))) (λ limits. terms_at (suc (limits 10)))
+told_terms : (most : Limits) → ToldIn most terms (λ limits. terms_at (suc (limits 10)))
 unfolding ◌▸◌ pure
 told_terms most = told_same (twin_terms most) (λ st. terms_more (most 10) st) (λ limits st. terms_more (limits 10) st)
 
 -- ---- rows and places
 
-told_inner : (most : Limits) → Told (List Term) most (either (done []) (terms most)) (either (done []) (terms (raised most))) (inner_terms_in most) (λ limits. inner_terms_in limits)
+told_inner : (most : Limits) → ToldIn most (λ limits. either (done []) (terms limits)) inner_terms_in
 unfolding inner_terms_in pure
 told_inner most = by_next (λ o. is_fit (mark_fit 125 o)) (blind_mark 125) (ended []) (told_terms most)
 
-told_row : (most : Limits) → Told (List Term) most (row most) (row (raised most)) (row_in most) (λ limits. row_in limits)
+told_row : (most : Limits) → ToldIn most row row_in
 unfolding row_in
 told_row most = then (told_mark 123) (λ a. then (told_inner most) (λ ts. then (told_mark 125) (λ b. ended ts)))
 
-told_any_row : (most : Limits) → Told (List Term) most (either (row most) (done [])) (either (row (raised most)) (done [])) (any_row_in most) (λ limits. any_row_in limits)
+told_any_row : (most : Limits) → ToldIn most (λ limits. either (row limits) (done [])) any_row_in
 unfolding any_row_in pure
 told_any_row most = by_next (λ o. is_fit (mark_fit 123 o)) (blind_mark 123) (told_row most) (ended [])
 
 abbrev Rows : Type 0
 Rows = List Term × List Term
 
-told_both : (most : Limits) → Told Rows most (row most ▹ λ x. either (row most) (done []) ▹ λ y. done (x, y)) (row (raised most) ▹ λ x. either (row (raised most)) (done []) ▹ λ y. done (x, y)) (row_in most ▸ λ x. any_row_in most ▸ λ y. pure (x, y)) (λ limits. row_in limits ▸ λ x. any_row_in limits ▸ λ y. pure (x, y))
+told_both : (most : Limits) → ToldIn {A = Rows} most (λ limits. row limits ▹ λ x. either (row limits) (done []) ▹ λ y. done (x, y)) (λ limits. row_in limits ▸ λ x. any_row_in limits ▸ λ y. pure (x, y))
 told_both most = then (told_row most) (λ x. then (told_any_row most) (λ y. ended (x, y)))
 
-told_rows : (most : Limits) → Told Rows most (rows most) (rows (raised most)) (rows_in most) (λ limits. rows_in limits)
+told_rows : (most : Limits) → ToldIn {A = Rows} most rows rows_in
 unfolding rows_in pure
 told_rows most = by_next (λ o. is_fit (mark_fit 123 o)) (blind_mark 123) (told_both most) (ended ([], []))
 
-told_place : (most : Limits) (before : ℕ) → Told Place most (place most before) (place (raised most) before) (place_in most before) (λ limits. place_in limits before)
+told_place : (most : Limits) (before : ℕ) → ToldIn most (λ limits. place limits before) (λ limits. place_in limits before)
 unfolding place_in
 told_place most before = then told_coordinates (λ p. then (told_rows most) (λ r. then (told_mark 59) (λ c. ended (record { x = p.0; y = p.1; row_x = r.0; row_y = r.1 }))))
 
 -- ---- sections
 
-told_content : (most : Limits) (parts : Parts) (k : SectionKind) → Told Parts most (content most parts k) (content (raised most) parts k) (content_in most parts k) (λ limits. content_in limits parts k)
+told_content : (most : Limits) (parts : Parts) (k : SectionKind) → ToldIn most (λ limits. content limits parts k) (λ limits. content_in limits parts k)
 unfolding content_in
 told_content most parts kind.Quality = then told_quality (λ x. ended (record parts { quality = Some x }))
-told_content most parts kind.MapPoints = then (told_entries _ most 2 (omega arith, omega arith) map_point map_point map_point_at (λ limits. map_point_at) told_map_point (λ k said v more l. coordinates_head _ said v more l)) (λ x. ended (record parts { points = Some x }))
-told_content most parts kind.MapLines = then (told_entries _ most 3 (omega arith, omega arith) map_line map_line map_line_at (λ limits. map_line_at) told_map_line map_line_head) (λ x. ended (record parts { lines = Some x }))
-told_content most parts kind.NewPoints = then (told_entries _ most 4 (omega arith, omega arith) (place most) (place (raised most)) (place_in most) place_in (told_place most) (λ k said v more l. coordinates_head _ said v more l)) (λ x. ended (record parts { new_points = Some x }))
-told_content most parts kind.NewLines = then (told_entries _ most 5 (omega arith, omega arith) pair pair pair_at (λ limits. pair_at) told_pair (λ k said v more l. ends_head _ Any Any said v more l)) (λ x. ended (record parts { new_lines = Some x }))
-told_content most parts kind.FreeArea = then (told_entries _ most 6 (omega arith, omega arith) (place most) (place (raised most)) (place_in most) place_in (told_place most) (λ k said v more l. coordinates_head _ said v more l)) (λ x. ended (record parts { area = Some x }))
-told_content most parts kind.FreeArea2 = then (told_entries _ most 7 (omega arith, omega arith) (place most) (place (raised most)) (place_in most) place_in (told_place most) (λ k said v more l. coordinates_head _ said v more l)) (λ x. ended (record parts { limit = Some x }))
-told_content most parts kind.Elements = then (told_entries _ most 8 (omega arith, omega arith) element element element_at (λ limits. element_at) told_element element_head) (λ x. ended (record parts { elements = Some x }))
-told_content most parts kind.Orientations = then (told_entries _ most 9 (omega arith, omega arith) turn turn turn_at (λ limits. turn_at) told_turn (λ k said v more l. mark_head _ 40 said v more l)) (λ x. ended (record parts { turns = Some x }))
+told_content most parts kind.MapPoints = then (told_entries _ most 2 (omega arith, omega arith) (λ limits. map_point) (λ limits. map_point_at) told_map_point (λ k said v more l. coordinates_head _ said v more l)) (λ x. ended (record parts { points = Some x }))
+told_content most parts kind.MapLines = then (told_entries _ most 3 (omega arith, omega arith) (λ limits. map_line) (λ limits. map_line_at) told_map_line map_line_head) (λ x. ended (record parts { lines = Some x }))
+told_content most parts kind.NewPoints = then (told_entries _ most 4 (omega arith, omega arith) place place_in (told_place most) (λ k said v more l. coordinates_head _ said v more l)) (λ x. ended (record parts { new_points = Some x }))
+told_content most parts kind.NewLines = then (told_entries _ most 5 (omega arith, omega arith) (λ limits. pair) (λ limits. pair_at) told_pair (λ k said v more l. ends_head _ Any Any said v more l)) (λ x. ended (record parts { new_lines = Some x }))
+told_content most parts kind.FreeArea = then (told_entries _ most 6 (omega arith, omega arith) place place_in (told_place most) (λ k said v more l. coordinates_head _ said v more l)) (λ x. ended (record parts { area = Some x }))
+told_content most parts kind.FreeArea2 = then (told_entries _ most 7 (omega arith, omega arith) place place_in (told_place most) (λ k said v more l. coordinates_head _ said v more l)) (λ x. ended (record parts { limit = Some x }))
+told_content most parts kind.Elements = then (told_entries _ most 8 (omega arith, omega arith) (λ limits. element) (λ limits. element_at) told_element element_head) (λ x. ended (record parts { elements = Some x }))
+told_content most parts kind.Orientations = then (told_entries _ most 9 (omega arith, omega arith) (λ limits. turn) (λ limits. turn_at) told_turn (λ k said v more l. mark_head _ 40 said v more l)) (λ x. ended (record parts { turns = Some x }))
 
 -- any number of sections
 unfoldable pub some_sections : Limits → Parts → List Said → Parts → Type 0
@@ -375,11 +414,11 @@ says_sections : (most : Limits) (parts : Parts) → Says (some_sections most par
 unfolding done
 says_sections most parts = ([], parts, no_sections most parts [] parts (refl, refl))
 
-sections_grow : (most : Limits) (count : ℕ) (parts : Parts) (said : List Said) (v : Parts) → sections most count parts said v → sections (raised most) count parts said v
+sections_grow : (most : Limits) (what count : ℕ) (parts : Parts) (said : List Said) (v : Parts) → sections most count parts said v → sections (raised what most) count parts said v
 unfolding sections
-sections_grow most zero parts said v l = l
-sections_grow most (suc count) parts said v l =
-    grow_then (grow_then (λ s w k. k) (λ x. (told_content most parts x).grow)) (λ x. sections_grow most count x) said v l
+sections_grow most what zero parts said v l = l
+sections_grow most what (suc count) parts said v l =
+    grow_then (grow_then (λ s w k. k) (λ x. (told_content most parts x).grow what)) (λ x. sections_grow most what count x) said v l
 
 unfit_section : (parts : Parts) (t : Tok) → is_unfit (section_fit parts (Some t)) ≡ is_unfit (section_fit parts (Some (kind_of t)))
 unfit_section parts (MarkTok c) = refl
@@ -409,15 +448,15 @@ abbrev Onward : Limits → ℕ → Parts → State → Read Parts
 Onward most room parts = section_in most parts ▸ sections_in most room
 
 abbrev SectionsTold : Limits → ℕ → Parts → Type 0
-SectionsTold most room parts = Told Parts most (some_sections most parts) (some_sections (raised most) parts) (sections_in most room parts) (λ limits. sections_in limits room parts)
+SectionsTold most room parts = ToldIn most (λ limits. some_sections limits parts) (λ limits. sections_in limits room parts)
 
 section_gone : (most : Limits) (parts : Parts) (st : State) (k : SectionKind) (st1 : State) (v : Parts) (st2 : State) → section_word_at parts st ≡ Ok (k, st1) → content_in most parts k st1 ≡ Ok (v, st2) → Gone Parts (section most parts) (λ limits. section_in limits parts) st v st2
 unfolding section_in
 section_gone most parts st k st1 v st2 word read = gone_then (content most parts) (λ k limits. content_in limits parts k) st k st1 v st2 (gone_good (good_section_word parts) st k st1 word) ((told_content most parts k).ok st1 v st2 read)
 
-section_broken : (most : Limits) (parts : Parts) (st : State) (k : SectionKind) (st1 : State) (f : Fault) → section_word_at parts st ≡ Ok (k, st1) → content_in most parts k st1 ≡ Err f → Broken Parts most (section most parts) (section (raised most) parts) (λ limits. section_in limits parts) st f
+section_broken : (most : Limits) (parts : Parts) (st : State) (k : SectionKind) (st1 : State) (f : Fault) → section_word_at parts st ≡ Ok (k, st1) → content_in most parts k st1 ≡ Err f → Broken Parts most (section most parts) (λ what. section (raised what most) parts) (λ limits. section_in limits parts) st f
 unfolding section_in
-section_broken most parts st k st1 f word read = broken_second (content most parts) (content (raised most) parts) (λ k limits. content_in limits parts k) st k st1 f (λ s w l. l) (gone_good (good_section_word parts) st k st1 word) ((told_content most parts k).err st1 f read)
+section_broken most parts st k st1 f word read = broken_second (content most parts) (λ k what. content (raised what most) parts k) (λ k limits. content_in limits parts k) st k st1 f (λ what s w l. l) (gone_good (good_section_word parts) st k st1 word) ((told_content most parts k).err st1 f read)
 
 opened_ok : (most : Limits) (parts : Parts) (st : State) (p : Parts × State) → section_in most parts st ≡ Ok p → (k : SectionKind × State) × (section_word_at parts st ≡ Ok k) × (content_in most parts k.0 k.1 ≡ Ok p)
 unfolding section_in ◌▸◌
@@ -442,7 +481,7 @@ onward_ok most room parts others st v st2 read =
     let w = opened_ok most parts st b.0 b.1 in
     gone_then (some_sections most) (λ p limits. sections_in limits room p) st b.0.0 b.0.1 v st2 (section_gone most parts st w.0.0 w.0.1 b.0.0 b.0.1 w.1 w.2) ((others b.0.0).ok b.0.1 v st2 b.2)
 
-onward_err : (most : Limits) (room : ℕ) (parts : Parts) → ((next : Parts) → SectionsTold most room next) → (st : State) (f : Fault) → Onward most room parts st ≡ Err f → Broken Parts most (some_sections most parts) (some_sections (raised most) parts) (λ limits. Onward limits room parts) st f
+onward_err : (most : Limits) (room : ℕ) (parts : Parts) → ((next : Parts) → SectionsTold most room next) → (st : State) (f : Fault) → Onward most room parts st ≡ Err f → Broken Parts most (some_sections most parts) (λ what. some_sections (raised what most) parts) (λ limits. Onward limits room parts) st f
 unfolding ◌▸◌
 onward_err most room parts others st f read =
     elim (bind_err (section_in most parts st) (λ p. sections_in most room p.0 p.1) f read) [
@@ -452,12 +491,12 @@ onward_err most room parts others st f read =
                 let none = says_sections most parts in
                 word_broken (section_fit parts) (λ limits. Onward limits room parts) (unfit_section parts) (complete_said none.0 none.1 none.2) (wants_none (section_fit parts) (section_number parts)) (λ limits. word_fails limits room parts) st f (word_is parts st f word)
             | inr on ↦
-                broken_in st f (broken_first (λ p limits. sections_in limits room p) st f (says_sections most) (says_sections (raised most)) (section_broken most parts st on.0.0 on.0.1 f on.1 on.2)) (a_section most parts) (a_section (raised most) parts) (λ limits s like. inr refl)
+                broken_in st f (broken_first (λ p limits. sections_in limits room p) st f (says_sections most) (λ what. says_sections (raised what most)) (section_broken most parts st on.0.0 on.0.1 f on.1 on.2)) (a_section most parts) (λ what. a_section (raised what most) parts) (λ limits s like. inr refl)
           ]
       | inr on ↦
           let w = opened_ok most parts st on.0 on.1 in
-          broken_in st f (broken_second (some_sections most) (some_sections (raised most)) (λ p limits. sections_in limits room p) st on.0.0 on.0.1 f (grow_then (λ s w k. k) (λ x. (told_content most parts x).grow)) (section_gone most parts st w.0.0 w.0.1 on.0.0 on.0.1 w.1 w.2) ((others on.0.0).err on.0.1 f on.2))
-          (a_section most parts) (a_section (raised most) parts) (λ limits s like. inr refl)
+          broken_in st f (broken_second (some_sections most) (λ p what. some_sections (raised what most) p) (λ p limits. sections_in limits room p) st on.0.0 on.0.1 f (λ what. grow_then (λ s w k. k) (λ x. (told_content most parts x).grow what)) (section_gone most parts st w.0.0 w.0.1 on.0.0 on.0.1 w.1 w.2) ((others on.0.0).err on.0.1 f on.2))
+          (a_section most parts) (λ what. a_section (raised what most) parts) (λ limits s like. inr refl)
     ]
 
 abbrev is_end : Option Tok → Bool
@@ -475,10 +514,10 @@ chosen_ok : (most : Limits) (room : ℕ) (parts : Parts) → ((next : Parts) →
 chosen_ok most room parts others true st v st2 read = gone_in st v st2 ((ended {most = most} parts).ok st v st2 read) (no_sections most parts) (λ limits s like. inr refl)
 chosen_ok most room parts others false st v st2 read = gone_in st v st2 (onward_ok most room parts others st v st2 read) (a_section most parts) (λ limits s like. inr refl)
 
-chosen_err : (most : Limits) (room : ℕ) (parts : Parts) → ((next : Parts) → SectionsTold most room next) → (b : Bool) (st : State) (f : Fault) → chosen b most room parts st ≡ Err f → Broken Parts most (some_sections most parts) (some_sections (raised most) parts) (λ limits. chosen b limits room parts) st f
+chosen_err : (most : Limits) (room : ℕ) (parts : Parts) → ((next : Parts) → SectionsTold most room next) → (b : Bool) (st : State) (f : Fault) → chosen b most room parts st ≡ Err f → Broken Parts most (some_sections most parts) (λ what. some_sections (raised what most) parts) (λ limits. chosen b limits room parts) st f
 chosen_err most room parts others true st f read =
-    broken_in st f ((ended {most = most} parts).err st f read) (no_sections most parts) (no_sections (raised most) parts) (λ limits s like. inr refl)
-chosen_err most room parts others false st f read = broken_in st f (onward_err most room parts others st f read) (λ s v l. l) (λ s v l. l) (λ limits s like. inr refl)
+    broken_in st f ((ended {most = most} parts).err st f read) (no_sections most parts) (λ what. no_sections (raised what most) parts) (λ limits s like. inr refl)
+chosen_err most room parts others false st f read = broken_in st f (onward_err most room parts others st f read) (λ s v l. l) (λ what s v l. l) (λ limits s like. inr refl)
 
 chosen_like : (limits : Limits) (room : ℕ) (parts : Parts) (st s : State) → Like (head s.left) (head st.left) → sections_in limits (suc room) parts s ≡ chosen (is_end (head st.left)) limits room parts s
 chosen_like limits room parts st s like = chosen_is limits room parts s ∙ ap (λ (b : Bool). chosen b limits room parts s) (blind_same is_end (blind_name endrule_word) (head s.left) (head st.left) like)
@@ -493,16 +532,16 @@ told_sections most zero parts =
     let end = ended {most = most} parts in
     record {
       some = says_sections most parts;
-      grow = λ said v l. (l.0, sections_grow most l.0 parts said v l.1);
+      grow = λ what said v l. (l.0, sections_grow most what l.0 parts said v l.1);
       ok = λ st v st2 read. gone_in st v st2 (end.ok st v st2 (sym (none_left most parts st) ∙ read)) (no_sections most parts) (λ limits s like. inr (none_left limits parts s));
-      err = λ st f read. broken_in st f (end.err st f (sym (none_left most parts st) ∙ read)) (no_sections most parts) (no_sections (raised most) parts) (λ limits s like. inr (none_left limits parts s));
+      err = λ st f read. broken_in st f (end.err st f (sym (none_left most parts st) ∙ read)) (no_sections most parts) (λ what. no_sections (raised what most) parts) (λ limits s like. inr (none_left limits parts s));
     }
 told_sections most (suc room) parts =
     record {
       some = says_sections most parts;
-      grow = λ said v l. (l.0, sections_grow most l.0 parts said v l.1);
+      grow = λ what said v l. (l.0, sections_grow most what l.0 parts said v l.1);
       ok = λ st v st2 read. gone_in st v st2 (chosen_ok most room parts (told_sections most room) (is_end (head st.left)) st v st2 (sym (chosen_is most room parts st) ∙ read)) (λ s w l. l) (λ limits s like. inr (chosen_like limits room parts st s like));
-      err = λ st f read. broken_in st f (chosen_err most room parts (told_sections most room) (is_end (head st.left)) st f (sym (chosen_is most room parts st) ∙ read)) (λ s w l. l) (λ s w l. l) (λ limits s like. inr (chosen_like limits room parts st s like));
+      err = λ st f read. broken_in st f (chosen_err most room parts (told_sections most room) (is_end (head st.left)) st f (sym (chosen_is most room parts st) ∙ read)) (λ s w l. l) (λ what s w l. l) (λ limits s like. inr (chosen_like limits room parts st s like));
     }
 
 -- ---- the name of a rule
@@ -551,7 +590,7 @@ name_gone most st v st2 e short =
       along = λ limits s c left like. name_goes limits (ltb (limits 11) (length v)) s (after s t.0 c) v c (name_opened limits s v (after s t.0 c) (good_text.again t.0 v s c t.1 tt left)) refl;
     }
 
-name_long : (most : Limits) (b : Bool) (st : State) (v : List ℕ) (st1 : State) (f : Fault) → text_at st ≡ Ok (v, st1) → ltb (most 11) (length v) ≡ b → short_name b (v, st1) ≡ Err f → Broken (List ℕ) most (rule_name most) (rule_name (raised most)) (λ limits. name_in limits) st f
+name_long : (most : Limits) (b : Bool) (st : State) (v : List ℕ) (st1 : State) (f : Fault) → text_at st ≡ Ok (v, st1) → ltb (most 11) (length v) ≡ b → short_name b (v, st1) ≡ Err f → Broken (List ℕ) most (rule_name most) (λ what. rule_name (raised what most)) (λ limits. name_in limits) st f
 name_long most false st v st1 f e long read = absurd cc
 name_long most true st v st1 f e long read =
     let t = good_text.takes st v st1 e in
@@ -559,19 +598,19 @@ name_long most true st v st1 f e long read =
     let rule : st.rule ≡ st1.rule = sym (ap (λ (s : State). s.rule) t.3) in
     let too_many : TooMany st1.rule 11 ≡ f = cc in
     let is : TooMany st.rule 11 ≡ f = ap (λ (n : ℕ). TooMany n 11) rule ∙ too_many in
-    let b : Broken (List ℕ) most (rule_name most) (rule_name (raised most)) (λ limits. name_in limits) st (TooMany st.rule 11) = record {
+    let b : Broken (List ℕ) most (rule_name most) (λ what. rule_name (raised what most)) (λ limits. name_in limits) st (TooMany st.rule 11) = record {
       used = [];
       rest = st.left;
       left = refl;
       front = inl (complete_said (plain (TextTok []) ∷ []) [] (says_name most));
       stop = λ limits s c here stopping.
-          let next = head_next s.left (TextTok v) (ap head here ∙ stopping.0 ∙ ap head left) in
+          let next = head_next s.left (TextTok v) (ap head here ∙ past_same 11 (head c) (head st.left) (omega arith) stopping.0 ∙ ap head left) in
           let read2 : text_at s ≡ Ok (v, after s t.0 next.0) = good_text.again t.0 v s next.0 t.1 tt (next.1 ∙ sym (ap (λ (x : List Said). words x ++ next.0) (text_word t.0 v t.1))) in
           let too : ltb (limits 11) (length v) ≡ true = ap (λ (n : ℕ). ltb n (length v)) stopping.1 ∙ long in
           (TooMany s.rule 11, name_opened limits s v (after s t.0 next.0) read2 ∙ ap (λ (x : Bool). short_name x (v, after s t.0 next.0)) too);
-      kind = (TextTok v, st1.left, TextTok [], left, refl, refl, ([], plain (TextTok []) ∷ [], [], says_name (raised most), refl), AtName v refl refl);
+      kind = (TextTok v, st1.left, TextTok [], left, refl, refl, ([], plain (TextTok []) ∷ [], [], says_name (raised 11 most), refl), AtName v refl refl);
     } in
-    subst (λ (g : Fault). Broken (List ℕ) most (rule_name most) (rule_name (raised most)) (λ limits. name_in limits) st g) is b
+    subst (λ (g : Fault). Broken (List ℕ) most (rule_name most) (λ what. rule_name (raised what most)) (λ limits. name_in limits) st g) is b
 
 name_parts : (most : Limits) (st : State) (p : List ℕ × State) → name_in most st ≡ Ok p → (text_at st ≡ Ok p) × (length p.0 ≤ most 11)
 unfolding name_in
@@ -592,11 +631,11 @@ text_is : (st : State) (f : Fault) → text_at st ≡ Err f → judged (text_fit
 unfolding text_at
 text_is st f e = e
 
-name_grows : (most : Limits) (said : List Said) (v : List ℕ) → rule_name most said v → rule_name (raised most) said v
+name_grows : (most : Limits) (what : ℕ) (said : List Said) (v : List ℕ) → rule_name most said v → rule_name (raised what most) said v
 unfolding rule_name
-name_grows most said v l = (l.0, one_more (length v) (most 11) l.1)
+name_grows most what said v l = (l.0, and_more (length v) (most 11) (extra what 11) l.1)
 
-told_rule_name : (most : Limits) → Told (List ℕ) most (rule_name most) (rule_name (raised most)) (name_in most) (λ limits. name_in limits)
+told_rule_name : (most : Limits) → ToldIn most rule_name name_in
 told_rule_name most =
     record {
       some = (plain (TextTok []) ∷ [], [], says_name most);
@@ -611,10 +650,10 @@ told_rule_name most =
 
 -- ---- a rule
 
-told_any_sections : (most : Limits) → Told Parts most (any_sections most) (any_sections (raised most)) (sections_in most 9 empty_parts) (λ limits. sections_in limits 9 empty_parts)
+told_any_sections : (most : Limits) → ToldIn most any_sections (λ limits. sections_in limits 9 empty_parts)
 unfolding any_sections some_sections
 told_any_sections most = told_sections most 9 empty_parts
 
-pub told_body : (most : Limits) → Told Rule most (rule_said most) (rule_said (raised most)) (body_in most) (λ limits. body_in limits)
+pub told_body : (most : Limits) → ToldIn most rule_said body_in
 unfolding body_in
 told_body most = then (told_name rule_word) (λ a. then (told_rule_name most) (λ bytes. then (told_any_sections most) (λ parts. then (told_name endrule_word) (λ b. ended (rule_of bytes parts)))))

@@ -2,15 +2,18 @@
 --
 -- kind_of    the kind of a word
 -- StandsAt   the word at which a limit is passed
+-- AsPast     a word that a limit refuses as it refuses another
+-- IsBut      limits of which one is left aside
 -- IsBegun    words that a text begins with, within limits and whatever its indices
 -- OneMore    rules that fit, and one more
--- IsFront    words that are a text or lead on to one, where each rule that ends among them fits
+-- LeadsOn    words that lead on to rules, where those that end among them fit
+-- IsFront    words that are a text or lead on to one
 -- Reaches    words that are read up to one word
 -- Misfits, WrongNumber, Passes, Misses    how that word is wrong, or missing
 -- Ends       a rule that ends where the words before it are read
 -- Misnames, HasNoLine, IsLoose    how that rule is wrong
 -- Refuses    words that are refused so
-use Rattle.std.specs.Prelude.{◌≡◌, ◌⊎◌, ℕ, ◌+◌, ◌<◌, List, [], ◌∷◌, ◌++◌, length}
+use Rattle.std.specs.Prelude.{◌≡◌, ◌≢◌, ◌⊎◌, ℕ, ◌+◌, ◌<◌, ◌≤◌, List, [], ◌∷◌, ◌++◌, length}
 use Rattle.std.specs.List.{AllByRecursion}
 use Rattle.rule_reader.specs.declared.fault.RuleRefusal.{RuleRefusal}
 use Rattle.rule_reader.specs.declared.fault.RuleRefusal.TheVariants.{Syntax, Number, TooMany, BadIndex, TooLoose, Memory}
@@ -37,6 +40,14 @@ pub data StandsAt (what : ℕ) (word : Tok) : Type 0 where
   -- at the coefficient
   AtTerm : (bytes : List ℕ) → what ≡ 10 → word ≡ NumberTok bytes → StandsAt what word
   AtName : (bytes : List ℕ) → what ≡ 11 → word ≡ TextTok bytes → StandsAt what word
+
+-- a limit refuses just this word; that of terms refuses any number
+abbrev pub AsPast : ℕ → Tok → Tok → Type 0
+AsPast what word other = (other ≡ word) ⊎ ((what ≡ 10) × (kind_of other ≡ kind_of word))
+
+-- one limit is left aside, and all others are kept
+abbrev pub IsBut : ℕ → Limits → Type 0
+IsBut what most = (other : ℕ) → other ≢ what → most other ≡ standard other
 
 -- ---- fronts of texts
 
@@ -65,13 +76,20 @@ pub record IsWhole (ended : ℕ) (words : List Tok) : Type 0 where
   pub admitted : Admits words rules
   pub count : ended ≡ length rules
 
--- so many rules end among the words, and fit: the words are these rules, or lead on to them and one more, that ends behind the words
-abbrev pub IsFront : ℕ → List Tok → Type 0
-IsFront ended words = IsWhole ended words ⊎ ((more : List Tok) × (0 < length more) × OneMore ended (words ++ more))
+-- so many rules end among the words, and fit: with more words, these are these rules and one more, that ends behind the words
+pub record LeadsOn (ended : ℕ) (words : List Tok) : Type 0 where
+  pub more : List Tok
+  pub some : 0 < length more
+  pub one : OneMore ended (words ++ more)
+  pub among : 0 < ended → length one.front ≤ length words
 
--- such words, or such words and the comma behind the last term that a row may have: with it a text begins if limits are left aside
+-- so many rules end among the words, and fit: the words are these rules, or lead on to one more
+abbrev pub IsFront : ℕ → List Tok → Type 0
+IsFront ended words = IsWhole ended words ⊎ LeadsOn ended words
+
+-- such words, or such words and the comma behind the last term that a row may have: with it a text begins if the limit of terms is left aside
 abbrev pub IsRead : ℕ → List Tok → Type 0
-IsRead ended words = IsFront ended words ⊎ ((front : List Tok) × (words ≡ front ++ MarkTok 44 ∷ []) × IsFront ended front × ((most : Limits) × IsBegun most words))
+IsRead ended words = IsFront ended words ⊎ ((front : List Tok) × (words ≡ front ++ MarkTok 44 ∷ []) × IsFront ended front × ((most : Limits) × IsBut 10 most × IsBegun most words))
 
 -- ---- a word
 
@@ -99,7 +117,8 @@ pub record WrongNumber (words : List Tok) (at : ℕ) : Type 0 where
   pub other : List ℕ
   pub fits : IsFront ended (here.before ++ NumberTok other ∷ [])
 
--- with this word no text begins within this one limit; with the word, or with another of its kind, one begins if limits are left aside
+-- within this one limit no text begins with the word, and where it is a term's, with no other number either;
+-- with the word, or with another of its kind, one begins if this one limit is left aside
 pub record Passes (words : List Tok) (number what : ℕ) : Type 0 where
   pub at : ℕ
   pub ended : ℕ
@@ -107,10 +126,10 @@ pub record Passes (words : List Tok) (number what : ℕ) : Type 0 where
   pub here : Reaches words at ended word
   pub rule : number ≡ ended + 1
   pub stands : StandsAt what word
-  pub stop : (most : Limits) → most what ≡ standard what → IsBegun most (here.before ++ word ∷ []) → ⊥
+  pub stop : (other : Tok) → AsPast what word other → (most : Limits) → most what ≡ standard what → IsBegun most (here.before ++ other ∷ []) → ⊥
   pub other : Tok
   pub alike : kind_of other ≡ kind_of word
-  pub begins : (most : Limits) × IsBegun most (here.before ++ other ∷ [])
+  pub begins : (most : Limits) × IsBut what most × IsBegun most (here.before ++ other ∷ [])
 
 -- all words are read, and are no text
 pub record Misses (words : List Tok) (at : ℕ) : Type 0 where

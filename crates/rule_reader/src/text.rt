@@ -1,6 +1,7 @@
 //! Reading a whole text.
 
-ghost use Rattle.std.specs.Prelude.{◌≡◌, ◌+◌, ◌-◌, ◌≤◌, ℕ, List, IfOk, IfErr, length, map};
+ghost use Rattle.std.specs.Prelude.{◌≡◌, ◌≢◌, ◌⊎◌, ◌+◌, ◌-◌, ◌≤◌, ℕ, List, IfOk, IfErr, MatchResult, length, map};
+ghost use Rattle.rule_reader.specs.declared.fault.RuleRefusal.{RuleRefusal};
 ghost use Rattle.rule_reader.specs.Words.{seen, words_of};
 ghost use Rattle.rule_reader.specs.Reading.{Gives};
 ghost use Rattle.rule_reader.specs.declared.rule.Rule.{Rule};
@@ -125,8 +126,12 @@ pub fn read_rules(alloc: Global, bytes: &[u8]) -> Result<Rules, RuleRefusal>
     ensures found { IfOk result (λ rules. Admits (words_of bytes.now) rules) }
     // What the grammar says of the words is read, unless memory runs out.
     ensures only { (rules : List Rule) → Admits (words_of bytes.now) rules → IsReadAs result rules }
-    // What is refused stands at the first word with which no text goes on, or at the first rule that is wrong, and is of its kind.
+    // What is refused stands at the first word with which no text goes on, or at the first rule that is
+    // wrong, and is of its kind.
     ensures refused { IfErr result (Refuses (words_of bytes.now)) }
+    // Each text that is refused so is refused, unless memory runs out, and has no other refusal.
+    ensures refused_only { (f : RuleRefusal) → f ≢ RuleRefusal.Memory → Refuses (words_of bytes.now) f
+        → MatchResult result (λ rules. ⊥) (λ e. (e ≡ f) ⊎ (e ≡ RuleRefusal.Memory)) }
     // What is read can be printed.
     ensures printable { IfOk result CanPrint }
     // Which refusal it is: the first fault that is met.

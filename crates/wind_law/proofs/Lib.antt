@@ -1,4 +1,5 @@
 -- The laws of winding numbers, in the order of standing on each other. Each file says at its head what it proves and what it stands on.
+-- Public are what crates above may cite where no law says it: a name that is public stays.
 --
 -- HalfOpen: the crossing of one edge, over four whole numbers.
 -- Counting, ClosedSums: along a closed list no function of the points gains anything.
@@ -10,11 +11,10 @@
 -- NearPoint: law Near point.
 -- Jump, Passage: law Jump, in terms of lines and then of points.
 -- SameChain: equal chains have equal winding numbers and areas.
+-- ConvexArea: a strictly convex polygon has an area above 0.
 -- SortedEnds: what `closed` computes.
---
--- For the crates above: what is near a point of an edge.
 -- Overlap: two polygons with a side in common share a point.
--- JumpNear: the jump close to a given point of an edge.
+-- JumpNear, JumpAt: law Jump near a point, in terms of lines and then of points.
 pub mod HalfOpen
 pub mod Counting
 pub mod ClosedSums
@@ -30,6 +30,8 @@ pub mod NearPoint
 pub mod Jump
 pub mod Passage
 pub mod SameChain
+pub mod ConvexArea
 pub mod SortedEnds
 pub mod Overlap
 pub mod JumpNear
+pub mod JumpAt

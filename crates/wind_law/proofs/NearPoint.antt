@@ -78,7 +78,7 @@ pub off_edges : (v w : RatPoint) (es : List Edge) → AllByRecursion (IsClear v 
 off_edges v w [] c = tt
 off_edges v w (e ∷ es) c = ((λ j. end_clear (through e.a e.b) v w (on_line w e.a e.b j) c.0), off_edges v w es c.1)
 
-free_edges : (v w : RatPoint) (es : List Edge) → IsRational v → AllByRecursion (IsClear v w) (lines es) → AllByRecursion (MeetsAtMostIn v w) es
+pub free_edges : (v w : RatPoint) (es : List Edge) → IsRational v → AllByRecursion (IsClear v w) (lines es) → AllByRecursion (MeetsAtMostIn v w) es
 free_edges v w [] kv c = tt
 free_edges v w (e ∷ es) kv c = ((λ m km h j. only_v (through e.a e.b) m v w h km.positive kv.positive (on_line m e.a e.b j) c.0), free_edges v w es kv c.1)
 

@@ -59,16 +59,16 @@ some_left {s} {x} {y} e h i (inl n) = omega (arith, ints)
 some_left {s} {x} {y} e h i (inr n) = omega (arith, ints)
 
 -- a point left of a side e and of a side s: s is not e reversed, nor has e one point for both ends
-not_reversed : (s e : Edge) (z : RatPoint) → pos 0 <ℤ orient_rat s.a s.b z → pos 0 <ℤ orient_rat e.a e.b z → e.a ≡ s.b → e.b ≡ s.a → ⊥
+pub not_reversed : (s e : Edge) (z : RatPoint) → pos 0 <ℤ orient_rat s.a s.b z → pos 0 <ℤ orient_rat e.a e.b z → e.a ≡ s.b → e.b ≡ s.a → ⊥
 not_reversed s e z hs he i j = clash (orient_back e.a e.b z) he (subst (λ (c : Point). pos 0 <ℤ orient_rat c e.a z) (sym j) (subst (λ (c : Point). pos 0 <ℤ orient_rat s.a c z) (sym i) hs))
   where
     clash : {x y : ℤ} → y ≡ pos 0 -ℤ x → pos 0 <ℤ x → pos 0 <ℤ y → ⊥
     clash {x} {y} e h j = omega (arith, ints)
 
-no_length : (e : Edge) (c : Point) (z : RatPoint) → pos 0 <ℤ orient_rat e.a e.b z → e.a ≡ c → e.b ≡ c → ⊥
+pub no_length : (e : Edge) (c : Point) (z : RatPoint) → pos 0 <ℤ orient_rat e.a e.b z → e.a ≡ c → e.b ≡ c → ⊥
 no_length e c z he i j = not_reversed e e z he he (i ∙ sym j) (j ∙ sym i)
 
-ahead : (e s : Edge) (z w : RatPoint) → pos 0 <ℤ orient_rat s.a s.b z → pos 0 <ℤ orient_rat e.a e.b z → pos 0 <ℤ orient_rat e.a e.b w → IsEndOrLeft s e.a → IsEndOrLeft s e.b → IsAhead (middle e) w (through s.a s.b)
+pub ahead : (e s : Edge) (z w : RatPoint) → pos 0 <ℤ orient_rat s.a s.b z → pos 0 <ℤ orient_rat e.a e.b z → pos 0 <ℤ orient_rat e.a e.b w → IsEndOrLeft s e.a → IsEndOrLeft s e.b → IsAhead (middle e) w (through s.a s.b)
 ahead e s z w hs he hw (inr (inr l)) y = within (some_left (side_middle s.a s.b e) (weak_end s e.a (inr (inr l))) (weak_end s e.b y) (inl l))
 ahead e s z w hs he hw x (inr (inr l)) = within (some_left (side_middle s.a s.b e) (weak_end s e.a x) (weak_end s e.b (inr (inr l))) (inr l))
 ahead e s z w hs he hw (inl i) (inl j) = absurd (no_length e s.a z he i j)

@@ -40,8 +40,11 @@ no_factor m w e h = elim (ordered m (pos 0)) [
 ]
 
 -- a-b has two ends, since p is off its line
+pub one_end : (p : RatPoint) (a b : Point) → a ≡ b → orient_rat a b p ≡ pos 0
+one_end p a b e = subst (λ (c : Point). orient_rat a c p ≡ pos 0) e (ring (a.x ∷ a.y ∷ p.x ∷ p.y ∷ p.k ∷ []) ((var 0 ⊖ var 0) ⊗ (var 3 ⊖ var 1 ⊗ var 4) ⊖ (var 1 ⊖ var 1) ⊗ (var 2 ⊖ var 0 ⊗ var 4)) (num (pos 0)) refl)
+
 two_ends : (p : RatPoint) (a b : Point) → pos 0 <ℤ orient_rat a b p → ¬ (a ≡ b)
-two_ends p a b h e = none (subst (λ (c : Point). pos 0 <ℤ orient_rat a c p) (sym e) h) (ring (a.x ∷ a.y ∷ p.x ∷ p.y ∷ p.k ∷ []) ((var 0 ⊖ var 0) ⊗ (var 3 ⊖ var 1 ⊗ var 4) ⊖ (var 1 ⊖ var 1) ⊗ (var 2 ⊖ var 0 ⊗ var 4)) (num (pos 0)) refl)
+two_ends p a b h e = none h (one_end p a b e)
   where
     none : {z : ℤ} → pos 0 <ℤ z → z ≡ pos 0 → ⊥
     none {z} h e = omega (arith, ints)
@@ -65,7 +68,7 @@ exchanged : (x k s t u w : ℤ) → x *ℤ (s *ℤ pos 1 +ℤ t *ℤ pos 1) ≡ 
 exchanged x k s t u w e = ring (x ∷ s ∷ t ∷ []) (var 0 ⊗ (var 2 ⊗ num (pos 1) ⊕ var 1 ⊗ num (pos 1))) (var 0 ⊗ (var 1 ⊗ num (pos 1) ⊕ var 2 ⊗ num (pos 1))) refl ∙ e
     ∙ ring (k ∷ s ∷ t ∷ u ∷ w ∷ []) (var 0 ⊗ (var 1 ⊗ var 3 ⊕ var 2 ⊗ var 4)) (var 0 ⊗ (var 2 ⊗ var 4 ⊕ var 1 ⊗ var 3)) refl
 
-weight_first : (m : RatPoint) (a b : Point) (h : IsOnSegment m (whole a) (whole b)) → ¬ (IsAt m b) → pos 0 <ℤ h.of_p
+pub weight_first : (m : RatPoint) (a b : Point) (h : IsOnSegment m (whole a) (whole b)) → ¬ (IsAt m b) → pos 0 <ℤ h.of_p
 weight_first m a b h n = elim (either h.of_p (pos 0)) [
   | inr j ↦ j
   | inl j ↦ absurd (n (record { x_is = at_second m.x m.k h.of_p h.of_q a.x b.x h.mean_x (none j) (rest j); y_is = at_second m.y m.k h.of_p h.of_q a.y b.y h.mean_y (none j) (rest j) }))
@@ -140,7 +143,7 @@ crossed p q a b kp kq h = record { p_left = h.p_left; q_right = h.q_right; a_rig
         (subst (λ (z : ℤ). pos 0 <ℤ (z -ℤ side (span p q) (whole a))) (sym (span_is p q (whole b))) (subst (λ (z : ℤ). pos 0 <ℤ (det p q (whole b) -ℤ z)) (sym (span_is p q (whole a))) rises))
 
 -- ---- the other edges
-differs : (e f : Edge) → same_edge e f ≡ false → ¬ (e ≡ f)
+pub differs : (e f : Edge) → same_edge e f ≡ false → ¬ (e ≡ f)
 differs e f i j = absurd (subst (λ (b : Bool). T b) (sym (edge_test.reflexive f) ∙ ap (λ (g : Edge). same_edge g f) (sym j) ∙ i) tt)
 
 elsewhere : (p q : RatPoint) (a b : Point) (es : List Edge) → IsRational p → IsRational q → AllByRecursion IsEdge es → AllByRecursion (IsMissed p q a b) es → AllByRecursion (IsElsewhere p q a b) es

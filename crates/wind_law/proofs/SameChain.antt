@@ -52,7 +52,7 @@ count_times x (e ∷ es) = ap (λ (n : ℕ). cond (same_edge e x) 1 0 + n) (coun
 abbrev pub IsOdd : (Edge → ℤ) → Type 0
 IsOdd f = (e : Edge) → f (back e) ≡ pos 0 -ℤ f e
 
-total_append : {X : Type 0} (f : X → ℤ) (es fs : List X) → total f (es ++ fs) ≡ total f es +ℤ total f fs
+pub total_append : {X : Type 0} (f : X → ℤ) (es fs : List X) → total f (es ++ fs) ≡ total f es +ℤ total f fs
 total_append f [] fs = none (total f fs)
   where
     none : (n : ℤ) → n ≡ pos 0 +ℤ n

@@ -7,7 +7,7 @@ ghost use Rattle.grid_geom.specs.Winding.{cross, wind};
 use super::Edge;
 use grid_geom::{Point, RatPoint, orient_rat};
 
-/// The height of a grid point in the units of q's numerators, q.k to a grid unit.
+/// The height of a grid point in the units of q's numerators, q.k to a grid step.
 fn height(p: &Point, q: &RatPoint) -> i128
     requires on_grid { IsOnGrid p.now }
     requires measured { IsMeasured q.now }
@@ -18,7 +18,8 @@ fn height(p: &Point, q: &RatPoint) -> i128
 
 /// 1 where the edge rises past q's height with q strictly on its left, -1 where it falls past it with q
 /// strictly on its right, else 0. An edge passes the height of its lower end, and not that of its upper.
-fn crossing(edge: &Edge, q: &RatPoint) -> i64
+/// The sum over a list of edges is the winding number of q. Bounds on q are as for `winding`.
+pub fn crossing(edge: &Edge, q: &RatPoint) -> i64
     requires start_on { IsOnGrid edge.now.a }
     requires end_on { IsOnGrid edge.now.b }
     requires measured { IsMeasured q.now }

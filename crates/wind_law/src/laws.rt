@@ -1,12 +1,12 @@
 //! The laws of winding numbers. Each is the contract of a function that does nothing, and holds of all
 //! points with whole coordinates of any size, and of all rational points.
 
-ghost use Rattle.std.specs.Prelude.{◌≡◌, List, ◌++◌, ◌∷◌, [], pos, ◌+ℤ◌, ◌-ℤ◌, ◌<ℤ◌};
+ghost use Rattle.std.specs.Prelude.{◌≡◌, List, ◌++◌, ◌∷◌, [], pos, ◌+ℤ◌, ◌-ℤ◌, ◌<ℤ◌, ◌≤ℤ◌};
 ghost use Rattle.std.specs.List.{AllByRecursion, Contains};
 ghost use Rattle.grid_geom.specs.declared.Point.{Point};
 ghost use Rattle.grid_geom.specs.declared.RatPoint.{RatPoint};
 ghost use Rattle.grid_geom.specs.declared.Edge.{Edge};
-ghost use Rattle.grid_geom.specs.Plane.{orient, IsRational};
+ghost use Rattle.grid_geom.specs.Plane.{orient, orient_rat, IsRational};
 ghost use Rattle.grid_geom.specs.Sides.{IsOnOpen};
 ghost use Rattle.grid_geom.specs.Polygon.{sides, IsStrictlyConvex, IsInPolygon, IsApart};
 ghost use Rattle.grid_geom.specs.Area.{shoelace};
@@ -16,7 +16,7 @@ ghost use Rattle.wind_law.specs.Chains.{edge, times, IsSameChain};
 ghost use Rattle.wind_law.specs.Parting.{IsParted};
 ghost use Rattle.wind_law.specs.Centre.{centre};
 ghost use Rattle.wind_law.specs.Near.{IsInClosure, HasPointNear, HaveCommonPoint};
-ghost use Rattle.wind_law.specs.Passing.{DoesPass, IsMissed};
+ghost use Rattle.wind_law.specs.Passing.{DoesPass, IsMissed, IsRightAt, HasPointAcross};
 
 /// Winding numbers add up along a list. An edge and its reverse add up to 0. An edge that is cut at a
 /// point of its open segment has the sum of its parts.
@@ -74,6 +74,18 @@ pub fn law_jump()
         wind p es -ℤ wind q es ≡ pos (times (edge a b) es) -ℤ pos (times (edge b a) es) }
 {}
 
+/// Let v be a point of the open segment a-b, and q strictly right of it. Let the segment v-q meet no edge
+/// of a closed list other than a-b and b-a. Then in each polygon that v lies in or on, and that has a
+/// point z left of a-b, there is a point left of a-b, as near to v as further edges ask, from which the
+/// winding number falls to q by the number of edges a-b less that of edges b-a.
+pub fn law_jump_near()
+    ensures { (v q z : RatPoint) (a b : Point) (corners : List Point) (es others : List Edge) →
+        IsRational v → IsRational q → IsRational z → AllByRecursion IsEdge es → IsClosed es →
+        IsRightAt v q a b → AllByRecursion (IsMissed v q a b) es → IsInClosure v corners →
+        IsInPolygon z corners → pos 0 <ℤ orient_rat a b z → AllByRecursion IsEdge others →
+        HasPointAcross v q a b corners es others }
+{}
+
 /// A closed list whose edges are all apart from an open polygon winds alike round any two of its points.
 /// So where it winds once round the centre, it winds once round each. Of a triangle it need not be said
 /// that it turns to the left.
@@ -101,11 +113,13 @@ pub fn law_chain()
 {}
 
 /// Doubled areas add up along a list. An edge and its reverse add up to 0. An edge that is cut at a point
-/// of its line has the sum of its parts. A triangle has its orientation.
+/// of its line has the sum of its parts. A triangle has its orientation. A strictly convex polygon, of any
+/// number of corners, has at least 1.
 pub fn law_area()
     ensures sums { (es fs : List Edge) → shoelace (es ++ fs) ≡ shoelace es +ℤ shoelace fs }
     ensures backwards { (a b : Point) → shoelace (edge a b ∷ edge b a ∷ []) ≡ pos 0 }
     ensures cut { (a b m : Point) → orient a b m ≡ pos 0 →
         shoelace (edge a m ∷ edge m b ∷ []) ≡ shoelace (edge a b ∷ []) }
     ensures triangle { (a b c : Point) → shoelace (sides (a ∷ b ∷ c ∷ [])) ≡ orient a b c }
+    ensures convex { (corners : List Point) → IsStrictlyConvex corners → pos 1 ≤ℤ shoelace (sides corners) }
 {}

@@ -6,7 +6,7 @@ mod crossings;
 pub mod laws;
 
 pub use balance::closed;
-pub use crossings::winding;
+pub use crossings::{crossing, winding};
 pub use grid_geom::Edge;
 pub use std::alloc::AllocError as OutOfMemory;
 

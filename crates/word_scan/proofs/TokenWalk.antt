@@ -1,10 +1,8 @@
 -- A walk over a text in the tokens style, byte by byte.
-use Rattle.std.proofs.Common.{◌≡◌, ◌≢◌, ℕ, zero, suc, ◌+◌, ◌-◌, ◌<◌, ◌≤◌, Bool, true, false, not, eqb, List, [], ◌∷◌, length, get_or, drop, Option, Some, None, refl, sym, ap, ◌∙◌, add-zero, take, arith}
-use Rattle.std.proofs.lemmas.List.{at_drop_more, at_drop_all, drop_more, drop_all, take_all, length-drop}
+use Rattle.std.proofs.Common.{◌≡◌, ◌≢◌, ℕ, zero, suc, ◌+◌, ◌-◌, ◌<◌, ◌≤◌, Bool, true, false, not, eqb, List, [], ◌∷◌, length, get_or, drop, Some, None, refl, sym, ap, ◌∙◌, add-zero, take, arith}
+use Rattle.std.proofs.lemmas.List.{at_drop_more, at_drop_all, drop_more, take_all, length-drop}
 use Rattle.std.proofs.lemmas.Bool.{ne_eqb, eqb-true, eqb-false}
-use Rattle.word_scan.specs.declared.scanner.Word.{Word}
 use Rattle.word_scan.specs.declared.scanner.Kind.{Kind}
-use Rattle.word_scan.specs.declared.scanner.ScanRefusal.{ScanRefusal}
 use Rattle.word_scan.specs.declared.scanner.ScanRefusal.TheVariants.{End, BadWord}
 use Rattle.word_scan.specs.Bytes.{is_white}
 use Rattle.word_scan.specs.Scan.{StartsWord}

@@ -24,6 +24,7 @@ returns-in_err-check_grid-clause-refused c =
 
 pub new-requires : goal.new-requires
 new-requires c = geometry_placed c.args.raw.now c.in_ok-shift.field-0 c.from_vec.result c.from_vec-2.result c.requires c.in_ok-shift.ensures.placed (rw (c.as_slice-2.ensures, c.as_slice-3.ensures) at c.in_ok-check_grid.ensures.planar)
+    (c.from_vec.ensures ∙ c.in_ok-flagged.ensures ∙ rw c.as_slice-4.ensures refl) (c.from_vec-2.ensures ∙ c.in_ok-domains.ensures ∙ rw (c.as_slice-6.ensures, c.as_slice-7.ensures) refl)
 
 pub returns-clause-accepted : goal.returns-clause-accepted
 returns-clause-accepted c =

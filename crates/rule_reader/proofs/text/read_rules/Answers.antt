@@ -1,3 +1,4 @@
+use Rattle.rule_reader.proofs.OneRefusal.{is_refused_only}
 use Rattle.rule_reader.proofs.Refused.{is_refused}
 use Rattle.std.proofs.Common.{◌≡◌, List, Result, Ok, Err, sym, ap, ◌∙◌}
 use Rattle.std.specs.Prelude.{IfOk}
@@ -40,3 +41,6 @@ returns-clause-refused c = is_refused (words_of c.args.bytes.now) c.text.result 
 
 pub returns-clause-printable : goal.returns-clause-printable
 returns-clause-printable c = is_printable c.args.bytes.now c.text.result (is_found (words_of c.args.bytes.now) c.text.result c.text.ensures)
+
+pub returns-clause-refused_only : goal.returns-clause-refused_only
+returns-clause-refused_only c = is_refused_only (words_of c.args.bytes.now) c.text.result c.text.ensures

@@ -1,6 +1,6 @@
 use Rattle.std.proofs.Common.{◌≡◌, ◌+◌, ◌∙◌, sym, drop, arith}
 use Rattle.word_scan.specs.Scan.{words_from}
-use Rattle.word_scan.specs.Tokens.{Past, tokens_from}
+use Rattle.word_scan.specs.Tokens.{tokens_from}
 use Rattle.word_scan.proofs.TokenWalk.{token_mode, remark_byte, remark_mark, space_byte, token_gap_ends}
 use Rattle.word_scan.proofs.Walk.{mode_of, note_byte, mark_byte, white_byte, gap_ends_all}
 use Rattle.word_scan.proofs.spaced.gap_end.Goals as goal

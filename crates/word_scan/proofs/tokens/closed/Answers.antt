@@ -1,4 +1,4 @@
-use Rattle.std.proofs.Common.{◌≡◌, ◌≤◌, length, get_or, arith}
+use Rattle.std.proofs.Common.{◌≡◌, get_or, arith}
 use Rattle.std.proofs.lemmas.List.{get_or_past}
 use Rattle.word_scan.specs.Tokens.{text_len}
 use Rattle.word_scan.proofs.tokens.closed.Goals as goal

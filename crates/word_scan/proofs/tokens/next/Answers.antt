@@ -1,6 +1,6 @@
-use Rattle.std.proofs.Common.{◌≡◌, ◌+◌, ◌-◌, ◌<◌, ◌≤◌, length, take, drop, Some, None, refl, sym, ◌∙◌, arith}
+use Rattle.std.proofs.Common.{◌≡◌, ◌≤◌, length, drop, Some, None, sym, ◌∙◌, arith}
 use Rattle.std.proofs.lemmas.List.{length-drop}
-use Rattle.word_scan.specs.Tokens.{token_at, tokens_from}
+use Rattle.word_scan.specs.Tokens.{token_at}
 use Rattle.word_scan.proofs.TokenWalk.{nothing_comes, token_is_given, no_token_is_given, rest_is}
 use Rattle.word_scan.proofs.tokens.next.Goals as goal
 

@@ -1,4 +1,4 @@
-use Rattle.std.proofs.Common.{sym, ◌∙◌, ap}
+use Rattle.std.proofs.Common.{ap}
 use Rattle.word_scan.specs.Tokens.{is_inside}
 use Rattle.word_scan.proofs.Prefixes.{stops_at, stops_past}
 use Rattle.word_scan.proofs.tokens.text_len.Goals as goal

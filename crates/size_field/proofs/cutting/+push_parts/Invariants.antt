@@ -1,0 +1,4 @@
+use Rattle.size_field.proofs.cutting.+push_parts.Given as goal
+
+abbrev pub decreases-push_parts : goal.decreases-push_parts
+decreases-push_parts l = l.halvings
