@@ -10,8 +10,8 @@ use Rattle.grid_geom.specs.declared.Edge.{Edge}
 use Rattle.grid_geom.specs.Plane.{IsRational}
 use Rattle.grid_geom.specs.Winding.{wind, cross}
 use Rattle.geom_check.specs.declared.kinds.Segment.{Segment}
-use Rattle.geom_check.specs.Boundary.{edge_of, boundary, reversed, with_edge}
-use Rattle.geom_check.specs.Accepted.{HasTwoSides}
+use Rattle.geom_check.specs.Boundary.{edge_of, boundary, back, with_edge}
+use Rattle.geom_check.specs.Accepted.{HasDifferentDomains}
 use Rattle.geom_check.specs.Geometry.{PlanarMap, IsGeometry}
 use Rattle.wind_law.proofs.Additive.{wind_append, wind_back}
 use Rattle.state_law.specs.Free.{AreFreeOf, DoEdgesTangle}
@@ -29,8 +29,8 @@ use Rattle.size_field.proofs.Rows.{segments_parts}
 use Rattle.size_field.proofs.AllPieces.{pieces_are, pieces_untangled}
 
 -- ---- what the edges of a segment give to a domain winds as the segment does
-back_cross : (q : RatPoint) (e : Edge) → cross q (reversed e) ≡ pos 0 -ℤ cross q e
-back_cross q e = turned (cross q e) (cross q (reversed e)) (wind_back q e.a e.b)
+back_cross : (q : RatPoint) (e : Edge) → cross q (back e) ≡ pos 0 -ℤ cross q e
+back_cross q e = turned (cross q e) (cross q (back e)) (wind_back q e.a e.b)
   where
     turned : (x y : ℤ) → x +ℤ (y +ℤ pos 0) ≡ pos 0 → y ≡ pos 0 -ℤ x
     turned x y h = omega (arith, ints)
@@ -43,7 +43,7 @@ on_side false true z = pos 0 -ℤ z
 on_side false false z = pos 0
 
 abbrev pub turned_by : Bool → Bool → Edge → List Edge
-turned_by left right e = with_edge left e (with_edge right (reversed e) [])
+turned_by left right e = with_edge left e (with_edge right (back e) [])
 
 one_turned : (q : RatPoint) (left right : Bool) (e : Edge) → wind q (turned_by left right e) ≡ on_side left right (cross q e)
 one_turned q true true e = wind_back q e.a e.b
@@ -100,7 +100,7 @@ boundary_append d all (p ∷ ps) qs =
     ap (λ (es : List Edge). turned_to d (segment_of all p) (piece_edge p) ++ es) (boundary_append d all ps qs)
     ∙ sym (append_assoc (turned_to d (segment_of all p) (piece_edge p)) (piece_boundary d all ps) (piece_boundary d all qs))
 
-pub with_turned : (left right : Bool) (e : Edge) (rest : List Edge) → with_edge left e (with_edge right (reversed e) rest) ≡ turned_by left right e ++ rest
+pub with_turned : (left right : Bool) (e : Edge) (rest : List Edge) → with_edge left e (with_edge right (back e) rest) ≡ turned_by left right e ++ rest
 with_turned true true e rest = refl
 with_turned true false e rest = refl
 with_turned false true e rest = refl
@@ -129,14 +129,14 @@ pieces_wind g greatest grading d q h kq =
     (λ s part. parts_wind q (bound g greatest grading s) MOST_HALVINGS (edge_of g.points s).a (edge_of g.points s).b kq part) g.segments (segments_parts g h))
 
 -- ---- no two edges of a boundary tangle
-turned_all : (P : Edge → Type 0) (left right : Bool) (e : Edge) (rest : List Edge) → P e → P (reversed e) → AllByRecursion P rest → AllByRecursion P (turned_by left right e ++ rest)
+turned_all : (P : Edge → Type 0) (left right : Bool) (e : Edge) (rest : List Edge) → P e → P (back e) → AllByRecursion P rest → AllByRecursion P (turned_by left right e ++ rest)
 turned_all P true true e rest p r h = (p, (r, h))
 turned_all P true false e rest p r h = (p, h)
 turned_all P false true e rest p r h = (r, h)
 turned_all P false false e rest p r h = h
 
 -- a fact of each piece's edge and of its reverse holds of each edge of a boundary
-boundary_all : (P : Edge → Type 0) → ((e : Edge) → P e → P (reversed e)) → (d : ℕ) (all : List Segment) (ps : List Piece) → AllByRecursion P (map piece_edge ps) → AllByRecursion P (piece_boundary d all ps)
+boundary_all : (P : Edge → Type 0) → ((e : Edge) → P e → P (back e)) → (d : ℕ) (all : List Segment) (ps : List Piece) → AllByRecursion P (map piece_edge ps) → AllByRecursion P (piece_boundary d all ps)
 boundary_all P turn d all [] h = tt
 boundary_all P turn d all (p ∷ ps) h =
     let s = segment_of all p in
@@ -145,20 +145,20 @@ boundary_all P turn d all (p ∷ ps) h =
 turned_free : (left right : Bool) (e : Edge) (rest : List Edge) → (left ≡ true → right ≡ true → ⊥) → AllByRecursion (λ f. ¬ (DoEdgesTangle e f)) rest → AreFreeOf DoEdgesTangle rest → AreFreeOf DoEdgesTangle (turned_by left right e ++ rest)
 turned_free true true e rest n h i = absurd (n refl refl)
 turned_free true false e rest n h i = (h, i)
-turned_free false true e rest n h i = (all_map (λ f. ¬ (DoEdgesTangle e f)) (λ f. ¬ (DoEdgesTangle (reversed e) f)) (λ f t r. t (tangle_back_first (reversed e) f r)) rest h, i)
+turned_free false true e rest n h i = (all_map (λ f. ¬ (DoEdgesTangle e f)) (λ f. ¬ (DoEdgesTangle (back e) f)) (λ f t r. t (tangle_back_first (back e) f r)) rest h, i)
 turned_free false false e rest n h i = i
 
 same_number : (m n : ℕ) → (m == n) ≡ true → m ≡ n
 same_number m n e = grind arith
 
-boundary_free : (d : ℕ) (all : List Segment) (ps : List Piece) → AllByRecursion (λ p. HasTwoSides (segment_of all p)) ps → AreFreeOf DoEdgesTangle (map piece_edge ps) → AreFreeOf DoEdgesTangle (piece_boundary d all ps)
+boundary_free : (d : ℕ) (all : List Segment) (ps : List Piece) → AllByRecursion (λ p. HasDifferentDomains (segment_of all p)) ps → AreFreeOf DoEdgesTangle (map piece_edge ps) → AreFreeOf DoEdgesTangle (piece_boundary d all ps)
 boundary_free d all [] n h = tt
 boundary_free d all (p ∷ ps) n h =
     let s = segment_of all p in
     turned_free (s.left == d) (s.right == d) (piece_edge p) (piece_boundary d all ps) (λ i j. n.0 (same_number s.left d i ∙ sym (same_number s.right d j)))
     (boundary_all (λ f. ¬ (DoEdgesTangle (piece_edge p) f)) (λ f t r. t (tangle_two_way.later (piece_edge p) f r)) d all ps h.0) (boundary_free d all ps n.1 h.1)
 
-two_sided : (all : List Segment) (p : Piece) → All HasTwoSides all → IsPiece (length all) p → HasTwoSides (segment_of all p)
+two_sided : (all : List Segment) (p : Piece) → All HasDifferentDomains all → IsPiece (length all) p → HasDifferentDomains (segment_of all p)
 two_sided all p sides piece = sides (p.segment - 1) (record { left = 0; right = 0; p = 0; q = 0; bc = 0; maxh = None }) (omega (arith, piece.of_segment.first, piece.of_segment.last))
 
 pub boundary_untangled : (g : PlanarMap) (greatest grading d : ℕ) → IsGeometry g → AreUntangled (piece_boundary d g.segments (pieces_of g greatest grading))
@@ -167,7 +167,7 @@ boundary_untangled g greatest grading d h =
     record {
       edges = boundary_all (λ e. ¬ (e.a ≡ e.b)) (λ e n i. n (sym i)) d g.segments (pieces_of g greatest grading) untangled.edges;
       free = boundary_free d g.segments (pieces_of g greatest grading)
-          (all_map (IsPiece (length g.segments)) (λ p. HasTwoSides (segment_of g.segments p)) (λ p piece. two_sided g.segments p h.planar.sides piece) (pieces_of g greatest grading) (pieces_are g greatest grading h))
+          (all_map (IsPiece (length g.segments)) (λ p. HasDifferentDomains (segment_of g.segments p)) (λ p piece. two_sided g.segments p h.planar.sides piece) (pieces_of g greatest grading) (pieces_are g greatest grading h))
           untangled.free;
     }
 
@@ -180,7 +180,7 @@ all_chosen : (es : List Edge) → AllByRecursion (IsChosen es) es
 all_chosen [] = tt
 all_chosen (e ∷ es) = (inl (inl refl), all_map (IsChosen es) (IsChosen (e ∷ es)) (λ f. later_chosen e f es) es (all_chosen es))
 
-back_chosen : (es : List Edge) (f : Edge) → IsChosen es f → IsChosen es (reversed f)
+back_chosen : (es : List Edge) (f : Edge) → IsChosen es f → IsChosen es (back f)
 back_chosen es f (inl i) = inr i
 back_chosen es f (inr i) = inl i
 

@@ -9,14 +9,14 @@ use Rattle.grid_geom.specs.declared.Edge.{Edge}
 use Rattle.grid_geom.specs.Bounds.{IsOnGrid}
 use Rattle.geom_check.specs.declared.kinds.Segment.{Segment}
 use Rattle.geom_check.specs.Boundary.{edge_of, edges_of, point_at, IsSegmentOf}
-use Rattle.geom_check.specs.Accepted.{HasPlaces, HasTwoEnds, AreApart}
+use Rattle.geom_check.specs.Accepted.{ArePlacesDifferent, HasTwoEnds, AreApart}
 use Rattle.geom_check.specs.Geometry.{PlanarMap, IsGeometry}
 use Rattle.state_law.specs.Free.{AreFreeOf, DoEdgesTangle}
 use Rattle.state_law.proofs.Lists.{all_both}
 use Rattle.size_field.specs.Parts.{IsPart, AreUntangled}
 
 -- two rows have two places
-two_places : (points : List Point) (m n : ℕ) → HasPlaces points → 1 ≤ m → m ≤ length points → 1 ≤ n → n ≤ length points → ¬ (m ≡ n) → ¬ (point_at points m ≡ point_at points n)
+two_places : (points : List Point) (m n : ℕ) → ArePlacesDifferent points → 1 ≤ m → m ≤ length points → 1 ≤ n → n ≤ length points → ¬ (m ≡ n) → ¬ (point_at points m ≡ point_at points n)
 two_places points m n places a b c d apart e = elim (cases_order m n) [
   | inl f ↦ apart f
   | inr r ↦ elim r [ inl l ↦ clash m n a l d e | inr l ↦ clash n m c l b (sym e) ]
@@ -32,7 +32,7 @@ two_places points m n places a b c d apart e = elim (cases_order m n) [
 row_on_grid : (points : List Point) (n : ℕ) → All IsOnGrid points → 1 ≤ n → n ≤ length points → IsOnGrid (point_at points n)
 row_on_grid points n on_grid h k = on_grid (n - 1) (record { x = pos 0; y = pos 0 }) (omega arith)
 
-segment_part : (points : List Point) (s : Segment) → HasPlaces points → All IsOnGrid points → IsSegmentOf (length points) s → HasTwoEnds s → IsPart (edge_of points s)
+segment_part : (points : List Point) (s : Segment) → ArePlacesDifferent points → All IsOnGrid points → IsSegmentOf (length points) s → HasTwoEnds s → IsPart (edge_of points s)
 segment_part points s places on_grid j n = record {
   on_grid = record { a = row_on_grid points s.p on_grid j.p_least j.p_greatest; b = row_on_grid points s.q on_grid j.q_least j.q_greatest };
   two_ends = two_places points s.p s.q places j.p_least j.p_greatest j.q_least j.q_greatest n;

@@ -7,7 +7,7 @@ use Rattle.std.specs.List.{flat_map}
 use Rattle.grid_geom.specs.declared.Edge.{Edge}
 use Rattle.grid_geom.specs.Bounds.{IsOnGrid}
 use Rattle.geom_check.specs.declared.kinds.Segment.{Segment}
-use Rattle.geom_check.specs.Boundary.{reversed, with_edge}
+use Rattle.geom_check.specs.Boundary.{back, with_edge}
 use Rattle.size_field.specs.declared.pieces.Piece.{Piece}
 
 -- a number from 1 to n
@@ -34,7 +34,7 @@ pub record IsPieceOnGrid (p : Piece) : Type 0 where
 
 -- what an edge of a segment gives to the boundary of a domain: itself where the domain is on the left, and itself reversed where it is on the right
 abbrev pub turned_to : ℕ → Segment → Edge → List Edge
-turned_to domain s e = with_edge (s.left == domain) e (with_edge (s.right == domain) (reversed e) [])
+turned_to domain s e = with_edge (s.left == domain) e (with_edge (s.right == domain) (back e) [])
 
 -- each piece with the domain on its left as it stands, each with the domain on its right reversed
 abbrev pub piece_boundary : ℕ → List Segment → List Piece → List Edge

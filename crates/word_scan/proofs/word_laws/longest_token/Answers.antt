@@ -1,5 +1,5 @@
 use Rattle.word_scan.proofs.LongestToken.{longest_found, found_longest, none_found, found_none}
-use Rattle.word_scan.proofs.token_laws.longest_token.Goals as goal
+use Rattle.word_scan.proofs.word_laws.longest_token.Goals as goal
 
 pub returns-clause-found : goal.returns-clause-found
 returns-clause-found c = longest_found
