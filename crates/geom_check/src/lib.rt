@@ -23,10 +23,12 @@ mod kinds;
 pub mod laws;
 mod limits;
 mod pairs;
+mod places;
 mod placing;
 mod refusal;
 mod risers;
 mod scale;
+mod spans;
 mod strips;
 mod windings;
 
