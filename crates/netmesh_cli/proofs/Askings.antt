@@ -1,7 +1,7 @@
 -- What the top call promises of words, from what they ask for.
-use Rattle.std.proofs.Common.{◌≡◌, ℕ, List, subst, refl, ap}
+use Rattle.std.proofs.Common.{◌≡◌, ℕ, List, Some, None, inr, subst, sym, refl, ap}
 use Rattle.std.specs.Prelude.{Option}
-use Rattle.folder_io.specs.Causes.{Told}
+use Rattle.folder_io.specs.Causes.{Told, ToldBoth}
 use Rattle.folder_io.specs.Names.{Files}
 use Rattle.netmesh_cli.specs.declared.words_fault.WordsFault.{WordsFault}
 use Rattle.netmesh_cli.specs.declared.outcome.Outcome.{Outcome}
@@ -12,21 +12,22 @@ use Rattle.netmesh_cli.specs.Commands.{Task, MeshOf, GeomOf, RulesOf, CheckOf, V
 use Rattle.netmesh_cli.specs.declared.asked.Asked.{Asked}
 use Rattle.netmesh_cli.specs.Words.{MeshNames, mesh_task, task_asked, IsUnbuilt, AskForUnbuilt, WordsRefused}
 use Rattle.netmesh_cli.specs.Top.{IsNotYetOrMemory, IsWordsOrMemory, WordsAnswer, MeshAnswer, MeshExactly, GeomAnswer, GeomExactly, Telling}
+use Rattle.netmesh_cli.specs.Stands.{Keeps}
 use Rattle.netmesh_cli.proofs.Exclusion.{one_fault, never_both, one_command}
 use Rattle.netmesh_cli.proofs.Tops.{fact_told}
 
 -- ---- words that are refused
 
--- a task that is built is not asked for by words that are refused
-pub not_asked : (words : List (List ℕ)) (task : Task) → ¬ IsUnbuilt task → IsCommand words task → (r : Refusal) → ¬ WordsRefused words r
-not_asked words task built asked (Words fault) refused = never_both words task fault asked refused
-not_asked words task built asked (In2d fault) refused = refused
-not_asked words task built asked (Geometry fault) refused = refused
-not_asked words task built asked (Folder name number) refused = refused
-not_asked words task built asked Out refused = refused
-not_asked words task built asked Memory refused = refused
-not_asked words task built asked (Rules fault) refused = refused
-not_asked words task built asked (NotYet part) refused = built (subst IsUnbuilt (one_command words refused.1.task task refused.1.command asked) refused.1.unbuilt)
+-- where words ask for a task that is built, memory alone refuses them
+pub memory_alone : (words : List (List ℕ)) (task : Task) → ¬ IsUnbuilt task → IsCommand words task → (r : Refusal) → WordsRefused words r → r ≡ Memory
+memory_alone words task built asked (Words fault) refused = absurd (never_both words task fault asked refused)
+memory_alone words task built asked (In2d fault) refused = absurd refused
+memory_alone words task built asked (Geometry fault) refused = absurd refused
+memory_alone words task built asked (Folder name number) refused = absurd refused
+memory_alone words task built asked Out refused = absurd refused
+memory_alone words task built asked Memory refused = refl
+memory_alone words task built asked (Rules fault) refused = absurd refused
+memory_alone words task built asked (NotYet part) refused = absurd (built (subst IsUnbuilt (one_command words refused.1.task task refused.1.command asked) refused.1.unbuilt))
 
 at_fault : (words : List (List ℕ)) (fault : WordsFault) → IsFault words fault → (r : Refusal) → WordsRefused words r → IsWordsOrMemory fault r
 at_fault words fault is (Words other) refused = one_fault words other fault refused is
@@ -34,7 +35,7 @@ at_fault words fault is (In2d why) refused = absurd refused
 at_fault words fault is (Geometry why) refused = absurd refused
 at_fault words fault is (Folder name number) refused = absurd refused
 at_fault words fault is Out refused = absurd refused
-at_fault words fault is Memory refused = absurd refused
+at_fault words fault is Memory refused = tt
 at_fault words fault is (Rules why) refused = absurd refused
 at_fault words fault is (NotYet part) refused = absurd (never_both words refused.1.task fault refused.1.command is)
 
@@ -44,7 +45,7 @@ not_built words ask (In2d fault) refused = absurd refused
 not_built words ask (Geometry fault) refused = absurd refused
 not_built words ask (Folder name number) refused = absurd refused
 not_built words ask Out refused = absurd refused
-not_built words ask Memory refused = absurd refused
+not_built words ask Memory refused = tt
 not_built words ask (Rules fault) refused = absurd refused
 not_built words ask (NotYet part) refused = refused.0
 
@@ -53,6 +54,41 @@ answer_at_fault words w0 w1 u given result held refused telling fault is = recor
 
 pub answer_not_built : (words : List (List ℕ)) (w0 w1 : Option (List ℕ)) (u : Type 0) (given result : Refusal) (held : Option Files) → WordsRefused words given → Telling w0 w1 u given result → AskForUnbuilt words → WordsAnswer (IsNotYetOrMemory 1) (Refused result) held held
 answer_not_built words w0 w1 u given result held refused telling ask = record { refused = fact_told (IsNotYetOrMemory 1) w0 w1 u given result tt telling (not_built words ask given refused); held = refl }
+
+-- ---- memory is refused for words that ask for what is built
+
+memory_told : (words : List (List ℕ)) (task : Task) → ¬ IsUnbuilt task → IsCommand words task → (w0 w1 : Option (List ℕ)) (u : Type 0) (given result : Refusal) → WordsRefused words given → Telling w0 w1 u given result → Memory ≡ result
+memory_told words task built asked w0 w1 u given result refused telling = sym (fact_told (λ (r : Refusal). r ≡ Memory) w0 w1 u given result refl telling (memory_alone words task built asked given refused))
+
+held_still : (names : MeshNames) (h : Option Files) → ToldBoth h h (Keeps names)
+held_still names None = refl
+held_still names (Some files) = record { others = λ other a b. refl; unaccepted = λ not. refl; log_first = λ ne. absurd (ne refl) }
+
+still : (h : Option Files) → ToldBoth h h (λ old new. Unit {0})
+still None = refl
+still (Some files) = tt
+
+mesh_memory : (names : MeshNames) (h : Option Files) (w0 w1 : Option (List ℕ)) (failed : List ℕ → Type 0) (untaken : Type 0) → MeshAnswer names (Refused Memory) h h w0 w1 failed untaken
+mesh_memory names h w0 w1 failed untaken = record { ending = tt; meshed = tt; cause = tt; stands = still h; keeps = held_still names h; summary = λ out. absurd cc }
+
+told_all : (h : Option Files) (P : Files → Type 0) → ((files : Files) → P files) → Told h P
+told_all None P all = tt
+told_all (Some files) P all = all files
+
+pub mesh_refused : (words : List (List ℕ)) (names : MeshNames) → IsCommand words (mesh_task names) → (w0 w1 : Option (List ℕ)) (u : Type 0) (given result : Refusal) (h : Option Files) (failed : List ℕ → Type 0) (untaken : Type 0) → WordsRefused words given → Telling w0 w1 u given result → MeshAnswer names (Refused result) h h w0 w1 failed untaken
+mesh_refused words names asked w0 w1 u given result h failed untaken refused telling = subst (λ (r : Refusal). MeshAnswer names (Refused r) h h w0 w1 failed untaken) (memory_told words (mesh_task names) (λ unbuilt. unbuilt refl) asked w0 w1 u given result refused telling) (mesh_memory names h w0 w1 failed untaken)
+
+pub mesh_refused_exactly : (words : List (List ℕ)) (names : MeshNames) → IsCommand words (mesh_task names) → (w0 w1 : Option (List ℕ)) (u : Type 0) (given result : Refusal) (h : Option Files) (failed untaken : Type 0) → WordsRefused words given → Telling w0 w1 u given result → Told h (λ files. MeshExactly names (Refused result) files failed untaken)
+mesh_refused_exactly words names asked w0 w1 u given result h failed untaken refused telling = subst (λ (r : Refusal). Told h (λ files. MeshExactly names (Refused r) files failed untaken)) (memory_told words (mesh_task names) (λ unbuilt. unbuilt refl) asked w0 w1 u given result refused telling)
+    (told_all h _ (λ files. record { text_refused = λ a. tt; map_refused = λ a. tt; map_fault = λ fault a. inr tt; size_refused = λ a. tt; rules_refused = λ a b. tt; rules_not_built = λ a b. tt; complete = λ a b c. tt }))
+
+pub geom_refused : (words : List (List ℕ)) (name : List ℕ) → IsCommand words (GeomOf name) → (w0 w1 : Option (List ℕ)) (u : Type 0) (given result : Refusal) (h : Option Files) (failed : List ℕ → Type 0) (untaken : Type 0) → WordsRefused words given → Telling w0 w1 u given result → GeomAnswer name (Refused result) h h w0 w1 failed untaken
+geom_refused words name asked w0 w1 u given result h failed untaken refused telling = subst (λ (r : Refusal). GeomAnswer name (Refused r) h h w0 w1 failed untaken) (memory_told words (GeomOf name) (λ unbuilt. unbuilt) asked w0 w1 u given result refused telling)
+    (record { ending = tt; shown = tt; held = refl; cause = tt; answer = λ out. absurd cc })
+
+pub geom_refused_exactly : (words : List (List ℕ)) (name : List ℕ) → IsCommand words (GeomOf name) → (w0 w1 : Option (List ℕ)) (u : Type 0) (given result : Refusal) (h : Option Files) (failed untaken : Type 0) → WordsRefused words given → Telling w0 w1 u given result → Told h (λ files. GeomExactly name (Refused result) files failed untaken)
+geom_refused_exactly words name asked w0 w1 u given result h failed untaken refused telling = subst (λ (r : Refusal). Told h (λ files. GeomExactly name (Refused r) files failed untaken)) (memory_told words (GeomOf name) (λ unbuilt. unbuilt) asked w0 w1 u given result refused telling)
+    (told_all h _ (λ files. record { text_refused = λ a. tt; map_refused = λ a. tt; map_fault = λ fault a. inr tt; complete = λ a b c. tt }))
 
 -- ---- words that ask for what is built
 

@@ -8,7 +8,7 @@ use Rattle.netmesh_cli.specs.declared.command.Command.{Command}
 use Rattle.netmesh_cli.specs.declared.command.MeshOptions.{MeshOptions}
 use Rattle.netmesh_cli.specs.CommandLine.{Given, nothing_given}
 use Rattle.netmesh_cli.specs.Reading.{reading}
-use Rattle.netmesh_cli.specs.Readers.{HasNot, HasNotAlone}
+use Rattle.netmesh_cli.specs.Forms.{HasNot, HasNotAlone}
 use Rattle.netmesh_cli.specs.Commands.{verb_word, place_count, MayBeGiven, IsForm, Task, MeshOf, GeomOf, RulesOf, CheckOf, ViewOf, ReplayOf, GenOf, verb_of, IsWholeFrom, AreOptions, StandFor, IsFaultOf, IsCommandOf, IsFault, IsCommand, task_of}
 use Rattle.netmesh_cli.proofs.Readings.{reads_from, read_again}
 

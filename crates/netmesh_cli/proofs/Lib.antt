@@ -9,12 +9,15 @@ pub mod Works
 pub mod Excluded
 pub mod Exactly
 pub mod Tops
-pub mod Halves
 pub mod Readings
 pub mod Walking
-pub mod Counting
 pub mod Calling
 pub mod Exclusion
 pub mod Askings
 pub mod Ends
 pub mod Comments
+pub mod Uses
+pub mod Tables
+pub mod ByClap
+pub mod FormReads
+pub mod FormPlaces

@@ -5,7 +5,7 @@ use Rattle.std.specs.Prelude.{option_map, option_and_then, bytes_eq, ◌==◌}
 use Rattle.netmesh_cli.specs.declared.settings.Setting.{Setting}
 use Rattle.netmesh_cli.specs.declared.settings.Setting.TheVariants.{Maxh, Grading, Class, Steps}
 use Rattle.netmesh_cli.specs.CommandLine.{IsPlain, setting_word, Given, word_given, with_word, Reads, AtEnd, PlacesAlone, APlace, TwoWords, OneWord}
-use Rattle.netmesh_cli.specs.Reading.{WordSort, PlainWord, Dashes, Before, With, Other, longer, halves_from, halves, halves_sort, after_dashes, after_dash, word_sort, is_plain_sort, setting_of, set_first, set_called, with_place, read_word, read_value, reading}
+use Rattle.netmesh_cli.specs.Reading.{WordSort, PlainWord, Dashes, Before, With, Other, longer, halves_from, halves, halves_sort, after_dashes, after_dash, word_sort, is_plain_sort, setting_of, set_first, set_called, read_word, read_value, reading}
 
 abbrev Found : Type 0
 Found = List (List ℕ) × Given
@@ -203,7 +203,7 @@ reads_from (word ∷ words) (Some name) given places all e = value_right (is_pla
 
 -- ---- and back
 
-set_free : (setting : Setting) (word : List ℕ) (given : Given) → word_given setting given ≡ None → set_called (setting_word setting) word given ≡ Some (with_word setting word given)
+pub set_free : (setting : Setting) (word : List ℕ) (given : Given) → word_given setting given ≡ None → set_called (setting_word setting) word given ≡ Some (with_word setting word given)
 set_free Maxh word given e = rw e refl
 set_free Grading word given e = rw e refl
 set_free Class word given e = rw e refl
@@ -234,24 +234,3 @@ pub one_reading : (given : Given) (words places others : List (List ℕ)) (all m
 one_reading given words places others all more r s =
     let e : (places, all) ≡ (others, more) = some_of (places, all) (others, more) (sym (read_again r) ∙ read_again s) in
     (ap (λ (f : Found). f.0) e, ap (λ (f : Found). f.1) e)
-
--- ---- one step
-
-pub value_read : (name value : List ℕ) (given now : Given) (words : List (List ℕ)) → is_plain_sort (word_sort value) ≡ true → set_called name value given ≡ Some now → reading (Some name) given (value ∷ words) ≡ reading None now words
-unfolding reading
-value_read name value given now words p s = rw (p, s) refl
-
-plain_is : (s : WordSort) → is_plain_sort s ≡ true → s ≡ PlainWord
-plain_is PlainWord e = refl
-plain_is Dashes e = absurd cc
-plain_is (Before name) e = absurd cc
-plain_is (With name value) e = absurd cc
-plain_is Other e = absurd cc
-
-pub place_read : (word : List ℕ) (given : Given) (words : List (List ℕ)) → is_plain_sort (word_sort word) ≡ true → reading None given (word ∷ words) ≡ with_place word (reading None given words)
-unfolding reading
-place_read word given words p = rw (plain_is (word_sort word) p) refl
-
-pub end_read : (given : Given) → reading None given [] ≡ Some ([], given)
-unfolding reading
-end_read given = refl

@@ -10,5 +10,6 @@ pub mod Lines
 pub mod Top
 pub mod CommandLine
 pub mod Reading
-pub mod Readers
 pub mod Commands
+pub mod Asks
+pub mod Forms

@@ -5,7 +5,7 @@ use Rattle.netmesh_cli.specs.declared.command.MeshFiles.{MeshFiles}
 use Rattle.netmesh_cli.specs.declared.asked.Asked.{Asked}
 use Rattle.netmesh_cli.specs.declared.asked.Asked.TheVariants.{Mesh, Geom}
 use Rattle.netmesh_cli.specs.declared.outcome.Refusal.{Refusal}
-use Rattle.netmesh_cli.specs.declared.outcome.Refusal.TheVariants.{Words, NotYet}
+use Rattle.netmesh_cli.specs.declared.outcome.Refusal.TheVariants.{Words, Memory, NotYet}
 use Rattle.netmesh_cli.specs.Commands.{Task, MeshOf, GeomOf, RulesOf, CheckOf, ViewOf, ReplayOf, GenOf, IsCommand, IsFault}
 
 -- the files of the verb `mesh`, by their names: two that it takes and two that it puts
@@ -48,8 +48,9 @@ pub record AskForUnbuilt (words : List (List ℕ)) : Type 0 where
   pub command : IsCommand words task
   pub unbuilt : IsUnbuilt task
 
--- why words are refused: they are at fault, or what they ask for isn't built
+-- why words are refused: they are at fault, or what they ask for isn't built, or memory is refused
 abbrev pub WordsRefused : List (List ℕ) → Refusal → Type 0
 WordsRefused words (Words fault) = IsFault words fault
+WordsRefused words Memory = Unit {0}
 WordsRefused words (NotYet part) = (part ≡ 1) × AskForUnbuilt words
 WordsRefused words _ = ⊥

@@ -6,6 +6,7 @@ ghost use Rattle.netmesh_cli.specs.Words.{task_asked, no_options, WordsRefused};
 
 use super::Refusal;
 use super::command::{Command, MeshFiles, MeshOptions, read_words};
+use std::alloc::Global;
 
 /// The part that words are that are not built yet.
 const WORDS_PART: u32 = 1;
@@ -30,11 +31,11 @@ fn has_none(options: &MeshOptions) -> bool
 }
 
 /// What the words of a call ask for, or why they are refused.
-pub fn read_asked<'a>(words: &'a [String]) -> Result<Asked<'a>, Refusal>
+pub fn read_asked<'a>(alloc: Global, words: &'a [String]) -> Result<Asked<'a>, Refusal>
     ensures asked { IfOk result (λ asked. IsCommand (map string_bytes words.entry.now) (task_asked asked)) }
     ensures refused { IfErr result (WordsRefused (map string_bytes words.entry.now)) }
 {
-    match read_words(words) {
+    match read_words(alloc, words)? {
         Ok(Command::Mesh(files)) => {
             if has_none(&files.options) {
                 Ok(Asked::Mesh(files))

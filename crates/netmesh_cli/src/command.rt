@@ -4,7 +4,9 @@ ghost use Rattle.std.specs.Prelude.{◌≡◌, ◌≢◌, map, IfOk, IfErr, IfSo
 ghost use Rattle.netmesh_cli.specs.Commands.{verb_word, IsFault, IsCommand, task_of};
 
 use super::WordsFault;
+use super::form::read_form;
 use super::forms::read_rest;
+use std::alloc::{AllocError, Global};
 use word_scan::Dec;
 
 /// What is done, the first word of a call.
@@ -104,15 +106,19 @@ fn verb_called(word: &str) -> Option<Verb>
 }
 
 /// What the words of a call ask for, or the first that is wrong with them.
-pub fn read_words<'a>(words: &'a [String]) -> Result<Command<'a>, WordsFault>
-    ensures command { IfOk result (λ command. IsCommand (map string_bytes words.entry.now) (task_of command)) }
-    ensures fault { IfErr result (IsFault (map string_bytes words.entry.now)) }
+pub fn read_words<'a>(
+    alloc: Global,
+    words: &'a [String],
+) -> Result<Result<Command<'a>, WordsFault>, AllocError>
+    ensures command { IfOk result (λ read. IfOk read (λ command. IsCommand (map string_bytes words.entry.now) (task_of command))) }
+    ensures fault { IfOk result (λ read. IfErr read (IsFault (map string_bytes words.entry.now))) }
 {
     let [first, rest @ ..] = words else {
-        return Err(WordsFault::NoVerb);
+        return Ok(Err(WordsFault::NoVerb));
     };
     let Some(verb) = verb_called(first.as_str()) else {
-        return Err(WordsFault::UnknownVerb);
+        return Ok(Err(WordsFault::UnknownVerb));
     };
-    read_rest(verb, rest)
+    let form = read_form(alloc, verb, rest)?;
+    Ok(read_rest(verb, rest, form))
 }

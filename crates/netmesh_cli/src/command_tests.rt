@@ -17,13 +17,13 @@ fn words_of(alloc: Global, line: &str) -> Result<Vec<String>, AllocError> {
 /// What is wrong with the words of a line.
 fn fault_of(alloc: Global, line: &str) -> Result<Option<WordsFault>, AllocError> {
     let words = words_of(alloc, line)?;
-    Ok(read_words(&words).err())
+    Ok(read_words(alloc, &words)?.err())
 }
 
 #[test]
 fn no_word_is_no_verb(rt: HostRuntime) -> Result<(), Fail> {
     let words = Vec::new(rt.alloc());
-    assert!(rt; read_words(&words).err() == Some(WordsFault::NoVerb));
+    assert!(rt; read_words(rt.alloc(), &words)?.err() == Some(WordsFault::NoVerb));
     Ok(())
 }
 
@@ -134,7 +134,7 @@ fn words_in_the_form_of_each_verb(rt: HostRuntime) -> Result<(), Fail> {
 #[test]
 fn names_and_options_of_a_mesh(rt: HostRuntime) -> Result<(), Fail> {
     let words = words_of(rt.alloc(), "mesh --maxh=0.5 g --class 3 r -- -m --steps")?;
-    let read = match read_words(&words) {
+    let read = match read_words(rt.alloc(), &words)? {
         Ok(Command::Mesh(files)) => Some(files),
         _ => None,
     };
@@ -164,7 +164,7 @@ fn numbers_of_view_and_gen(rt: HostRuntime) -> Result<(), Fail> {
     let words = words_of(rt.alloc(), "view l 07 12")?;
     assert!(rt;
         matches!(
-            read_words(&words),
+            read_words(rt.alloc(), &words)?,
             Ok(Command::View {
                 log: "l",
                 domain: 7,
@@ -175,7 +175,7 @@ fn numbers_of_view_and_gen(rt: HostRuntime) -> Result<(), Fail> {
     let words = words_of(rt.alloc(), "gen 2 1")?;
     assert!(rt;
         matches!(
-            read_words(&words),
+            read_words(rt.alloc(), &words)?,
             Ok(Command::Gen {
                 squares: 2,
                 parts: 1

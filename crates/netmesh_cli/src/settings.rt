@@ -1,10 +1,5 @@
 //! The options of `mesh`, as they are set.
 
-ghost use Rattle.std.specs.Prelude.{◌≡◌, option_map};
-ghost use Rattle.std.specs.Option.{option_copied};
-ghost use Rattle.netmesh_cli.specs.CommandLine.{nothing_given, word_given, with_word};
-ghost use Rattle.netmesh_cli.specs.Reading.{given_of, setting_of, set_called};
-
 /// An option of `mesh`.
 #[derive(Clone, Copy, Debug, PartialEq, Eq)]
 pub enum Setting {
@@ -25,83 +20,4 @@ pub struct Settings<'a> {
     pub grading: Option<&'a str>,
     pub class: Option<&'a str>,
     pub steps: Option<&'a str>,
-}
-
-/// The option that is called so.
-fn setting_of(name: &str) -> Option<Setting>
-    ensures { result ≡ setting_of name.now }
-{
-    if name == "maxh" {
-        Some(Setting::Maxh)
-    } else if name == "grading" {
-        Some(Setting::Grading)
-    } else if name == "class" {
-        Some(Setting::Class)
-    } else if name == "steps" {
-        Some(Setting::Steps)
-    } else {
-        None
-    }
-}
-
-impl<'a> Settings<'a> {
-    /// No option is set.
-    pub fn new() -> Self
-        ensures { given_of result ≡ nothing_given }
-    {
-        Settings {
-            maxh: None,
-            grading: None,
-            class: None,
-            steps: None,
-        }
-    }
-
-    /// What the option is set to.
-    fn get(&self, setting: Setting) -> Option<&'a str>
-        ensures { option_copied result ≡ word_given setting (given_of self.now) }
-    {
-        match setting {
-            Setting::Maxh => self.maxh,
-            Setting::Grading => self.grading,
-            Setting::Class => self.class,
-            Setting::Steps => self.steps,
-        }
-    }
-
-    /// The same with the option set to the word.
-    fn with(self, setting: Setting, word: &'a str) -> Self
-        ensures { given_of result ≡ with_word setting word.entry.now (given_of self.entry) }
-    {
-        match setting {
-            Setting::Maxh => Settings {
-                maxh: Some(word),
-                ..self
-            },
-            Setting::Grading => Settings {
-                grading: Some(word),
-                ..self
-            },
-            Setting::Class => Settings {
-                class: Some(word),
-                ..self
-            },
-            Setting::Steps => Settings {
-                steps: Some(word),
-                ..self
-            },
-        }
-    }
-
-    /// The same with the option that is called so set to the word: none where there is no such option,
-    /// or it is set already.
-    pub fn with_called(self, name: &str, word: &'a str) -> Option<Self>
-        ensures { option_map given_of result ≡ set_called name.now word.entry.now (given_of self.entry) }
-    {
-        let setting = setting_of(name)?;
-        if self.get(setting).is_some() {
-            return None;
-        }
-        Some(self.with(setting, word))
-    }
 }

@@ -106,7 +106,7 @@ pub fn netmesh<R: Threads + Sync, F: Folder, O: Sink, G: Gate + Sync>(
     // A refusal's line.
     ensures line { IfRefused result (WritesLine (O.written out.old) (O.written out.new) (Rose (O.faults out.old) (O.faults out.new))) }
 {
-    match read_asked(words) {
+    match read_asked(alloc, words) {
         Ok(Asked::Mesh(files)) => run_mesh(alloc, &files, folder, out),
         Ok(Asked::Geom(name)) => run_geom(alloc, name, folder, out),
         Err(refusal) => Outcome::Refused(tell(alloc, out, refusal)),

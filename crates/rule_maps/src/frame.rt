@@ -1,5 +1,5 @@
 // The local frame of a base line.
-ghost use Rattle.std.specs.Prelude.{◌≡◌, ◌≢◌, ◌≤◌, ◌≤ℤ◌, ◌*ℤ◌, ◌+ℤ◌, ◌-ℤ◌, pos};
+ghost use Rattle.std.specs.Prelude.{◌≡◌, ◌≢◌, ◌≤◌, ◌≤ℤ◌, ◌<ℤ◌, ◌*ℤ◌, ◌+ℤ◌, ◌-ℤ◌, pos};
 ghost use Rattle.std.specs.Int.{int_max, int_min};
 ghost use Rattle.grid_geom.specs.Bounds.{IsOnGrid, IsWithin};
 ghost use Rattle.rule_maps.specs.Frame.{LocalFrame, IsRoot, IsFrameOf, IsFrame, IsInRange, IsWay, way, dot, cross, half, height, local_x, local_y, in_units, local4_x, local4_y};
@@ -186,6 +186,15 @@ impl Frame {
         ensures frame { IsFrame self.now }
     {
         self.middle
+    }
+
+    /// The square of the line's length.
+    pub(crate) fn square(&self) -> i64
+        ensures value { result ≡ dot self.now.e self.now.e }
+        ensures positive { pos 0 <ℤ result }
+        ensures small { result ≤ℤ TURN }
+    {
+        dot_of(self.e, self.e)
     }
 
     /// Where p is seen from the line: q times how far along it, and q times how far to its left.

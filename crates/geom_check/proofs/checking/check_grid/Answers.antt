@@ -1,8 +1,9 @@
 use Rattle.std.proofs.Common.{◌∙◌, All, sym, subst}
 use Rattle.std.proofs.lemmas.Result.{err_from_is_err_and}
-use Rattle.geom_check.specs.Boundary.{IsEdgeOnGrid}
+use Rattle.wind_law.specs.Grid.{IsEdgeOnGrid}
 use Rattle.geom_check.specs.Accepted.{AreApart}
-use Rattle.geom_check.proofs.GridFaults.{edges_on_grid, winding_fault}
+use Rattle.geom_check.proofs.EdgesTurned.{edges_on_grid}
+use Rattle.geom_check.proofs.GridFaults.{winding_fault}
 use Rattle.geom_check.proofs.checking.check_grid.Goals as goal
 
 pub tangled-requires : goal.tangled-requires
@@ -10,7 +11,7 @@ tangled-requires c = subst (All IsEdgeOnGrid) (sym (c.deref.ensures.value ∙ c.
 
 pub returns-in-Some-2-clause-refused : goal.returns-in-Some-2-clause-refused
 returns-in-Some-2-clause-refused c =
-    (c.in_ok-check_rows.ensures.places, c.in_ok-check_rows.ensures.sides, c.in_ok-check_rows.ensures.ends, subst AreApart (c.deref.ensures.value ∙ c.in_ok-edges.ensures) c.in_default.ensures.none, rw c.in-Some-2.is at c.in_ok-point.ensures.found)
+    (c.in_ok-check_rows.ensures.places, (c.in_ok-check_rows.ensures.sides, (c.in_ok-check_rows.ensures.ends, (subst AreApart (c.deref.ensures.value ∙ c.in_ok-edges.ensures) c.in_default.ensures.none, rw c.in-Some-2.is at c.in_ok-point.ensures.found))))
 
 pub check_windings-requires-clause-apart : goal.check_windings-requires-clause-apart
 check_windings-requires-clause-apart c = subst AreApart (c.deref.ensures.value ∙ sym c.deref-2.ensures.value) c.in_default.ensures.none

@@ -1,7 +1,7 @@
 use Rattle.netmesh_cli.specs.Words.{names_of, mesh_task}
 use Rattle.netmesh_cli.specs.Commands.{GeomOf}
 use Rattle.netmesh_cli.proofs.Exclusion.{never_both}
-use Rattle.netmesh_cli.proofs.Askings.{asked_is, not_asked, answer_at_fault, answer_not_built, mesh_is_built, not_unbuilt, mesh_answers, mesh_exactlies, geom_answers, geom_exactlies}
+use Rattle.netmesh_cli.proofs.Askings.{asked_is, mesh_refused, mesh_refused_exactly, geom_refused, geom_refused_exactly, answer_at_fault, answer_not_built, mesh_is_built, not_unbuilt, mesh_answers, mesh_exactlies, geom_answers, geom_exactlies}
 use Rattle.netmesh_cli.proofs.top.netmesh.Goals as goal
 
 pub returns-in-Ok-Mesh-clause-words_at_fault : goal.returns-in-Ok-Mesh-clause-words_at_fault
@@ -32,13 +32,13 @@ pub returns-in-Err-clause-words_not_built : goal.returns-in-Err-clause-words_not
 returns-in-Err-clause-words_not_built g c = answer_not_built _ _ _ _ _ _ _ c.in-Err.ensures.refused c.tell.ensures.told
 
 pub returns-in-Err-clause-mesh : goal.returns-in-Err-clause-mesh
-returns-in-Err-clause-mesh g c = λ names asked. absurd (not_asked _ (mesh_task names) (mesh_is_built names) asked c.in-Err.refusal c.in-Err.ensures.refused)
+returns-in-Err-clause-mesh g c = λ names asked. mesh_refused _ names asked _ _ _ c.in-Err.refusal _ _ _ _ c.in-Err.ensures.refused c.tell.ensures.told
 
 pub returns-in-Err-clause-mesh_exactly : goal.returns-in-Err-clause-mesh_exactly
-returns-in-Err-clause-mesh_exactly g c = λ names asked. absurd (not_asked _ (mesh_task names) (mesh_is_built names) asked c.in-Err.refusal c.in-Err.ensures.refused)
+returns-in-Err-clause-mesh_exactly g c = λ names asked. mesh_refused_exactly _ names asked _ _ _ c.in-Err.refusal _ _ _ _ c.in-Err.ensures.refused c.tell.ensures.told
 
 pub returns-in-Err-clause-geom : goal.returns-in-Err-clause-geom
-returns-in-Err-clause-geom g c = λ name asked. absurd (not_asked _ (GeomOf name) (λ h. h) asked c.in-Err.refusal c.in-Err.ensures.refused)
+returns-in-Err-clause-geom g c = λ name asked. geom_refused _ name asked _ _ _ c.in-Err.refusal _ _ _ _ c.in-Err.ensures.refused c.tell.ensures.told
 
 pub returns-in-Err-clause-geom_exactly : goal.returns-in-Err-clause-geom_exactly
-returns-in-Err-clause-geom_exactly g c = λ name asked. absurd (not_asked _ (GeomOf name) (λ h. h) asked c.in-Err.refusal c.in-Err.ensures.refused)
+returns-in-Err-clause-geom_exactly g c = λ name asked. geom_refused_exactly _ name asked _ _ _ c.in-Err.refusal _ _ _ _ c.in-Err.ensures.refused c.tell.ensures.told

@@ -1,0 +1,8 @@
+use Rattle.std.proofs.Common.{◌≡◌, ◌∙◌, sym, ap, rules, not, nat_eq}
+use Rattle.std.specs.List.{list_any}
+use Rattle.std.proofs.lemmas.Fn.{filter_same}
+use Rattle.front_chain.specs.Front.{still_waiting}
+use Rattle.front_chain.proofs.chain.Chain.use_points.Goals as goal
+
+pub returns-clause-waiting : goal.returns-clause-waiting
+returns-clause-waiting c = filter_same _ (λ n. not (list_any (nat_eq n) c.args.used.now)) _ (λ n b f' called. search rules) _ _ c.retain.ensures.filtered ∙ ap (λ v. still_waiting v.waiting c.args.used.now) c.self.view_is

@@ -1,0 +1,6 @@
+//! What is the front of a domain, and how does it change when an element is glued to it?
+#![tactic(auto)]
+
+mod chain;
+
+pub use std::alloc::AllocError as OutOfMemory;
