@@ -33,7 +33,7 @@ use Rattle.rule_reader.specs.Refusals.{Refuses as RefusesRuleWords}
 use Rattle.geom_check.specs.declared.refusal.GeomRefusal.{GeomRefusal}
 use Rattle.geom_check.specs.declared.refusal.GeomRefusal.TheVariants.{Memory as NoMemoryToCheck}
 use Rattle.geom_check.specs.Boundary.{boundary, edges_of}
-use Rattle.geom_check.specs.Accepted.{IsSide, IsAccepted as IsAcceptedRaw}
+use Rattle.geom_check.specs.Accepted.{IsZeroOrOne, IsAccepted as IsAcceptedRaw}
 use Rattle.geom_check.specs.Refused.{IsRefusal}
 use Rattle.geom_check.specs.Geometry.{PlanarMap, IsGeometryOf}
 use Rattle.mesh_run.specs.declared.Options.{Options}
@@ -136,7 +136,7 @@ pub record IsOffSegments (g : PlanarMap) (q : RatPoint) : Type 0 where
 -- off the segments the front that is left of a domain winds as its boundary does, and once or not at all
 pub record IsWound (g : PlanarMap) (d : DomainRun) : Type 0 where
   pub same : (q : RatPoint) → IsOffSegments g q → wind q (front_edges d) ≡ wind q (boundary g.points d.domain g.segments)
-  pub side : (q : RatPoint) → IsOffSegments g q → IsSide (wind q (front_edges d))
+  pub side : (q : RatPoint) → IsOffSegments g q → IsZeroOrOne (wind q (front_edges d))
 
 -- the fronts of two domains wind round one place
 pub record DoBothWind (q : RatPoint) (c d : DomainRun) : Type 0 where

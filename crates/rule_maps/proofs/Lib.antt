@@ -9,4 +9,13 @@ pub mod Ranges
 pub mod Summing
 pub mod Rows
 -- Places: what a local place is on the grid.
-pub mod Placing
+pub mod GridPlaces
+pub mod Putting
+pub mod Constants
+pub mod Compiling
+-- Rules: balance, reach.
+pub mod Balance
+pub mod Idle
+pub mod Reaches
+-- Reach: what a rule uses lies in it.
+pub mod InReach

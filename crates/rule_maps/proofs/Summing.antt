@@ -6,7 +6,7 @@ use mathlib.Core.Bool.{Bool, true, false}
 use mathlib.Core.Path.{◌≡◌, sym, ap, ◌∙◌, subst}
 use native.Mathlib.Omega.{arith}
 use Rattle.std.specs.Int.RustNames.{unsigned_abs}
-use Rattle.std.proofs.lemmas.Int.{ints, to_z-of_z}
+use Rattle.std.proofs.lemmas.Int.{ints, to_z-of_z, to_z_pos}
 use mir.Val.{SFits, to_z, of_z}
 use mir.Syntax.{w32, w64, w128}
 use Rattle.grid_geom.specs.Bounds.{IsWithin}
@@ -111,3 +111,45 @@ weighted_is a of_y {p} {u} {v} {d} {e} h i j ha hu hv = record { value = back �
 
     same : either of_y u v ≡ either of_y d e
     same = ap (λ (z : ℤ). either of_y z v) i ∙ ap (λ (z : ℤ). either of_y d z) j
+
+-- ---- both shapes mixed
+abbrev pub mixed_weight : ℕ → ℤ
+mixed_weight class = pos 2 *ℤ pos class -ℤ pos 2
+
+abbrev pub code_weight : ℕ → ℤ
+code_weight class = cast128 (cast128 (pos 2 *ℤ to_z w128 class) -ℤ pos 2)
+
+weight_is : (class : ℕ) → 1 ≤ class → class ≤ 16 → code_weight class ≡ mixed_weight class
+weight_is class h j = ap (λ (z : ℤ). cast128 (cast128 (pos 2 *ℤ z) -ℤ pos 2)) (to_z_pos w128 class (omega (arith, j))) ∙ (let f : SFits w128 (pos 2 *ℤ pos class) = omega (arith, ints, j) in let g : SFits w128 (pos 2 *ℤ pos class -ℤ pos 2) = omega (arith, ints, h, j) in simp to_z-of_z)
+
+pub record IsMixed (class : ℕ) (a l : ℤ) : Type 0 where
+  pub product_fits : SFits w128 (code_weight class *ℤ cast128 l)
+  pub fits : SFits w128 (cast128 a +ℤ cast128 (code_weight class *ℤ cast128 l))
+  pub value : cast128 (cast128 a +ℤ cast128 (code_weight class *ℤ cast128 l)) ≡ a +ℤ mixed_weight class *ℤ l
+  pub small : IsWithin (pos 31 *ℤ NUMERATOR) (cast128 (cast128 a +ℤ cast128 (code_weight class *ℤ cast128 l)))
+
+pub mixed_is : (class : ℕ) (a l : ℤ) → 1 ≤ class → class ≤ 16 → IsWithin NUMERATOR a → IsWithin NUMERATOR l → IsMixed class a l
+mixed_is class a l h j ha hl = record {
+  product_fits = rw (weight_is class h j) (let f : SFits w128 l = fits128 NUMERATOR l (omega (arith, ints)) hl in simp to_z-of_z product);
+  fits = rw inner sum;
+  value = back;
+  small = rw back wide;
+}
+  where
+    weight : IsWithin (pos 30) (mixed_weight class)
+    weight = record { least = omega (arith, ints, h); greatest = omega (arith, ints, j) }
+
+    product : SFits w128 (mixed_weight class *ℤ l)
+    product = fits128 (pos 30 *ℤ NUMERATOR) (mixed_weight class *ℤ l) (omega (arith, ints)) (within_mul (pos 30) NUMERATOR (mixed_weight class) l weight hl)
+
+    wide : IsWithin (pos 31 *ℤ NUMERATOR) (a +ℤ mixed_weight class *ℤ l)
+    wide = within_add NUMERATOR (pos 30 *ℤ NUMERATOR) a (mixed_weight class *ℤ l) ha (within_mul (pos 30) NUMERATOR (mixed_weight class) l weight hl)
+
+    sum : SFits w128 (a +ℤ mixed_weight class *ℤ l)
+    sum = fits128 (pos 31 *ℤ NUMERATOR) (a +ℤ mixed_weight class *ℤ l) (omega (arith, ints)) wide
+
+    inner : cast128 a +ℤ cast128 (code_weight class *ℤ cast128 l) ≡ a +ℤ mixed_weight class *ℤ l
+    inner = rw (weight_is class h j) (let f : SFits w128 l = fits128 NUMERATOR l (omega (arith, ints)) hl in let g : SFits w128 a = fits128 NUMERATOR a (omega (arith, ints)) ha in let k : SFits w128 (mixed_weight class *ℤ l) = product in simp to_z-of_z)
+
+    back : cast128 (cast128 a +ℤ cast128 (code_weight class *ℤ cast128 l)) ≡ a +ℤ mixed_weight class *ℤ l
+    back = ap cast128 inner ∙ (let f : SFits w128 (a +ℤ mixed_weight class *ℤ l) = sum in simp to_z-of_z)

@@ -6,3 +6,6 @@ pub mod Fractions
 pub mod Frame
 pub mod Places
 pub mod Sums
+pub mod Inert
+pub mod Reach
+pub mod Compiled

@@ -8,6 +8,7 @@ use Rattle.rule_reader.specs.declared.rule.Term.{Term}
 use Rattle.rule_reader.specs.declared.rule.Place.{Place}
 use Rattle.rule_maps.specs.declared.sums.PlaceConstants.{PlaceConstants}
 use Rattle.rule_maps.specs.declared.sums.TheConstants.{CONSTANT}
+use Rattle.rule_maps.specs.Fractions.{nearest}
 use Rattle.rule_maps.specs.Frame.{LocalFrame, way, dot, cross}
 use Rattle.rule_maps.specs.Places.{mapped_at, point_at, either}
 
@@ -43,3 +44,11 @@ numerator f mapped constant row = constant *ℤ f.q +ℤ pos 10000 *ℤ moving f
 pub record IsSmall (c : PlaceConstants) : Type 0 where
   pub x : IsWithin CONSTANT c.x
   pub y : IsWithin CONSTANT c.y
+
+-- the place of the local place (u, v) over d q
+abbrev pub put_at : LocalFrame → ℤ → ℤ → ℤ → Point
+put_at f u v d =
+    record {
+      x = f.p1.x +ℤ nearest (record { top = u *ℤ f.e.x -ℤ v *ℤ f.e.y; bottom = d *ℤ dot f.e f.e });
+      y = f.p1.y +ℤ nearest (record { top = u *ℤ f.e.y +ℤ v *ℤ f.e.x; bottom = d *ℤ dot f.e f.e });
+    }

@@ -42,7 +42,7 @@ pub(crate) struct PlaceNumerators {
 }
 
 /// The coordinate of a mapped point in the rule that a term names.
-fn rest_of(term: &Term, points: &[MapPoint]) -> i32
+pub(crate) fn rest_of(term: &Term, points: &[MapPoint]) -> i32
     requires points { All IsMapPoint points.now }
     requires term { IsTerm (length points.now) term.now }
     ensures value { result ≡ rest_at points.now term.now }
@@ -168,5 +168,25 @@ pub(crate) fn numerators(
     PlaceNumerators {
         u: numerator(&constants.x, place.row_x.as_slice(), f, mapped),
         v: numerator(&constants.y, place.row_y.as_slice(), f, mapped),
+    }
+}
+
+/// Both shapes of a corner mixed at a class: area and 2 class - 2 times limit, over 2 class - 1.
+pub(crate) fn mixed(area: &PlaceNumerators, limit: &PlaceNumerators, class: u32) -> PlaceNumerators
+    requires area_u { IsWithin NUMERATOR area.now.u }
+    requires area_v { IsWithin NUMERATOR area.now.v }
+    requires limit_u { IsWithin NUMERATOR limit.now.u }
+    requires limit_v { IsWithin NUMERATOR limit.now.v }
+    requires least { 1 ≤ class }
+    requires greatest { class ≤ 16 }
+    ensures u { result.u ≡ area.now.u +ℤ (pos 2 *ℤ pos class -ℤ pos 2) *ℤ limit.now.u }
+    ensures v { result.v ≡ area.now.v +ℤ (pos 2 *ℤ pos class -ℤ pos 2) *ℤ limit.now.v }
+    ensures u_small { IsWithin (pos 31 *ℤ NUMERATOR) result.u }
+    ensures v_small { IsWithin (pos 31 *ℤ NUMERATOR) result.v }
+{
+    let weight = 2 * class as i128 - 2;
+    PlaceNumerators {
+        u: area.u + weight * limit.u,
+        v: area.v + weight * limit.v,
     }
 }

@@ -15,6 +15,7 @@ use Rattle.rule_reader.specs.declared.rule.MapLine.{MapLine}
 use Rattle.state_law.specs.Free.{IsIn}
 use Rattle.state_law.specs.Saved.{IsCorner}
 use Rattle.state_law.specs.Saved as saved
+use Rattle.size_field.specs.Size.{SizeField}
 use Rattle.state_law.specs.State.{State, point_at, pair_edge, front_edges, corners_of}
 use Rattle.state_law.specs.Refusal as refusal
 use Rattle.state_law.proofs.Lists.{all_map}
@@ -128,6 +129,6 @@ module _ (maps : Maps) (st : State) (t : Attempt) where
       line_free line (inr i) = inr i
 
 -- a refused pair has no candidate
-pub refused_none : (maps : Maps) (st : State) (rules : List Rule) (line class : ℕ) (notes : List Note) → refusal.IsFront (front_edges st.points st.front) → IsRefusedBy maps st rules line class notes →
-    (t : Attempt) → IsOf st rules line class t → ¬ (IsCandidate maps st t)
-refused_none maps st rules line class notes f r t o c = refuted (λ a. Unit {0}) st.points (front_edges st.points st.front) _ (places_of maps st t) f (r.excused t o (allowed maps st t c) (fits maps st t c)) (by_places maps st t c)
+pub refused_none : (maps : Maps) (sizes : SizeField) (st : State) (rules : List Rule) (line class : ℕ) (notes : List Note) → refusal.IsFront (front_edges st.points st.front) → IsRefusedBy maps sizes st rules line class notes →
+    (t : Attempt) → IsOf sizes st rules line class t → ¬ (IsCandidate maps st t)
+refused_none maps sizes st rules line class notes f r t o c = refuted (λ a. Unit {0}) st.points (front_edges st.points st.front) _ (places_of maps st t) f (r.excused t o (allowed maps st t c) (fits maps st t c)) (by_places maps st t c)

@@ -1,9 +1,9 @@
 -- When a rule applies at a line of the front: a class, a line, a rule and an assignment of front points to the rule's points.
 -- Origin: NETGEN's rule test (Schoeberl 1997). These definitions look at all front points and all front lines.
 --
--- Maps          what is taken from the places of rules and from sizes
--- Attempt       a class, a line, a rule with its number, an assignment
--- base .. elements   the places of an attempt
+-- Maps          what is taken from how rules place their points
+-- Attempt       a class, a line with its frame, a rule with its number, an assignment
+-- mapped, locals, made, zone, elements   the places of an attempt
 -- IsTolerated   a deviation is within a tolerance at a class
 -- IsCandidate   the rule applies: its sentences are the fields, in the order in which they are looked at
 use lib.IntN.{ℤ, pos, ◌+ℤ◌, ◌-ℤ◌, ◌*ℤ◌}
@@ -16,6 +16,7 @@ use Rattle.grid_geom.specs.Closed.{same_point}
 use Rattle.grid_geom.specs.Line.{whole}
 use Rattle.grid_geom.specs.Plane.{orient}
 use Rattle.grid_geom.specs.Polygon.{IsStrictlyConvex, IsInPolygon, IsApart}
+use Rattle.rule_maps.specs.Frame.{LocalFrame, local4_x, local4_y, IsInRange}
 use Rattle.rule_reader.specs.declared.rule.Rule.{Rule}
 use Rattle.rule_reader.specs.declared.rule.Triple.{Triple}
 use Rattle.rule_reader.specs.declared.rule.MapPoint.{MapPoint}
@@ -23,25 +24,17 @@ use Rattle.rule_reader.specs.declared.rule.MapLine.{MapLine}
 use Rattle.state_law.specs.State.{State, point_at, front_edges, corners_of}
 use Rattle.state_law.specs.Gluing.{MayAllBeGlued}
 
--- what the frame of a line is made of: its ends' places and the size at its floored middle
-pub record Base : Type 0 where
-  pub start : Point
-  pub end : Point
-  pub size : ℕ
-
--- what is taken from rule_maps and size_field, which aren't built yet: stand-ins for their definitions
+-- what is taken from how rules place their points: which rules are live, and the new points and the zone's corners at a frame and mapped points
 pub record Maps : Type 0 where
   pub is_live : Rule → Bool
-  pub is_in_range : Base → Point → Bool
-  pub local4 : Base → Point → Point
-  pub made : Rule → Base → List Point → List Point
-  pub corners : Rule → Base → ℕ → List Point → List Point
-  pub size_at : Point → Point → ℕ
+  pub made : Rule → LocalFrame → List Point → List Point
+  pub corners : Rule → LocalFrame → ℕ → List Point → List Point
 
--- a class, a front line (number, from, to), a rule with its number, and an assignment: the numbers of the mapped points in the rule's order
+-- a class, a front line (number, from, to) with its local frame, a rule with its number, and an assignment: the numbers of the mapped points in the rule's order
 pub record Attempt : Type 0 where
   pub class : ℕ
   pub line : ℕ × ℕ × ℕ
+  pub frame : LocalFrame
   pub rule : ℕ
   pub text : Rule
   pub points : List ℕ
@@ -51,22 +44,25 @@ abbrev pub nth : List ℕ → ℕ → ℕ
 nth ns n = slice_index_or ns (n - 1) 0
 
 -- ---- the places of an attempt
-module _ (maps : Maps) (st : State) (t : Attempt) where
-  abbrev pub base : Base
-  base = record { start = point_at st.points t.line.1; end = point_at st.points t.line.2; size = maps.size_at (point_at st.points t.line.1) (point_at st.points t.line.2) }
+abbrev pub mapped : State → Attempt → List Point
+mapped st t = corners_of st.points t.points
 
-  abbrev pub mapped : List Point
-  mapped = corners_of st.points t.points
+-- the local places of the mapped points, in units of 1/10,000, rounded
+abbrev pub local4 : LocalFrame → Point → Point
+local4 f p = record { x = local4_x f p; y = local4_y f p }
 
-  abbrev pub made : List Point
-  made = maps.made t.text base mapped
+abbrev pub locals : State → Attempt → List Point
+locals st t = map (local4 t.frame) (mapped st t)
 
-  abbrev pub zone : List Point
-  zone = maps.corners t.text base t.class mapped
+abbrev pub made : Maps → State → Attempt → List Point
+made maps st t = maps.made t.text t.frame (mapped st t)
 
-  -- the corners of the elements; rule points after the mapped ones are the new points
-  abbrev pub elements : List (List Point)
-  elements = map (corners_of (mapped ++ made)) t.text.elements
+abbrev pub zone : Maps → State → Attempt → List Point
+zone maps st t = maps.corners t.text t.frame t.class (mapped st t)
+
+-- the corners of the elements; rule points after the mapped ones are the new points
+abbrev pub elements : Maps → State → Attempt → List (List Point)
+elements maps st t = map (corners_of (mapped st t ++ made maps st t)) t.text.elements
 
 -- the pair of numbers that the rule's line is mapped to
 abbrev pub mapped_pair : List ℕ → MapLine → ℕ × ℕ
@@ -120,16 +116,16 @@ pub record IsCandidate (maps : Maps) (st : State) (t : Attempt) : Type 0 where
   pub counted : length t.points ≡ length t.text.points
   pub different : IsDistinct nat_eq t.points
   pub on_front : AllByRecursion (IsFrontPoint st) t.points
-  pub in_range : AllByRecursion (λ p. IsTrue (maps.is_in_range (base maps st t) p)) (mapped maps st t)
+  pub in_range : AllByRecursion (IsInRange t.frame) (mapped st t)
   -- rule points 1 and 2 at the ends of the line, each mapped line at a front line of the same direction
   pub at_start : nth t.points 1 ≡ t.line.1
   pub at_end : nth t.points 2 ≡ t.line.2
   pub at_lines : AllByRecursion (λ l. IsFrontPair st (mapped_pair t.points l)) t.text.lines
   -- the tolerances at the class
-  pub points_tolerated : AreTolerated t.class (map (maps.local4 (base maps st t)) (mapped maps st t)) t.text.points
-  pub lines_tolerated : AllByRecursion (IsLineTolerated t.class (map (maps.local4 (base maps st t)) (mapped maps st t)) t.text.points) t.text.lines
+  pub points_tolerated : AreTolerated t.class (locals st t) t.text.points
+  pub lines_tolerated : AllByRecursion (IsLineTolerated t.class (locals st t) t.text.points) t.text.lines
   -- the orientations
-  pub turned : AllByRecursion (λ n. pos 0 <ℤ orient (point_at (mapped maps st t) n.0) (point_at (mapped maps st t) n.1) (point_at (mapped maps st t) n.2)) t.text.turns
+  pub turned : AllByRecursion (λ n. pos 0 <ℤ orient (point_at (mapped st t) n.0) (point_at (mapped st t) n.1) (point_at (mapped st t) n.2)) t.text.turns
   -- the new points: on the grid, at no listed point, different
   pub made_on_grid : AllByRecursion IsOnGrid (made maps st t)
   pub made_new : AllByRecursion (λ p. ¬ (Contains st.points p)) (made maps st t)

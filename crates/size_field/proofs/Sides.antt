@@ -1,17 +1,19 @@
 -- One walk over the sources gives the bound of a piece, whatever lies on its two sides.
-use Rattle.std.proofs.Common.{◌≡◌, ◌≢◌, ℕ, ◌≤◌, ◌==◌, Bool, true, false, cond, min, List, [], ◌∷◌, Option, None, Some, refl, sym, ap, ◌∙◌, arith, eqb}
+use Rattle.std.proofs.Common.{◌≡◌, ◌≢◌, ℕ, ◌≤◌, ◌==◌, Bool, true, false, cond, min, List, [], ◌∷◌, Option, None, Some, refl, sym, ap, ◌∙◌, arith}
 use Rattle.std.proofs.lemmas.Bool.{eqb-true}
 use Rattle.grid_geom.specs.declared.Point.{Point}
 use Rattle.grid_geom.specs.declared.TheConstants.{LONGEST}
 use Rattle.geom_check.specs.declared.kinds.Source.{Source}
 use Rattle.geom_check.specs.declared.kinds.Segment.{Segment}
 use Rattle.geom_check.specs.declared.kinds.Domain.{Domain}
-use Rattle.geom_check.specs.Geometry.{PlanarMap}
+use Rattle.std.specs.List.{AllByRecursion}
+use Rattle.std.proofs.lemmas.List.Elements.{recursion_from_All}
+use Rattle.geom_check.specs.Geometry.{PlanarMap, IsGeometry, IsLength, IsLengthIfAny}
 use Rattle.grid_geom.specs.declared.Edge.{Edge}
 use Rattle.geom_check.specs.Boundary.{edge_of}
 use Rattle.size_field.specs.declared.cutting.TheConstants.{MOST_HALVINGS}
 use Rattle.size_field.specs.Size.{SizeField, least_size, size_from}
-use Rattle.size_field.specs.Cutting.{at_most, size_of_domain, greatest_in, side_bound, side_most, most_of, bound, bound_by, parts, parts_of}
+use Rattle.size_field.specs.Cutting.{at_most, size_of_domain, greatest_in, side_most, most_of, bound, bound_by, parts, parts_of}
 use Rattle.size_field.proofs.LeastSizes.{least_min, least_most}
 
 spread : (n a b : ℕ) → min (min n a) b ≡ min (min n b) (min a b)
@@ -66,3 +68,19 @@ same_parts g greatest s field most e h sources most_is edge_is = λ i. parts (λ
   where
     bounds : (m : Point) → bound_by field most m ≡ bound g greatest field.grading s m
     bounds m = (λ i. least_size field.grading m (most_is i) (sources i)) ∙ bound_is g greatest field.grading s m h.0 h.1
+
+-- ---- the greatest size of a domain is a length
+length_of : (domains : List Domain) (domain : ℕ) → AllByRecursion (λ d. IsLengthIfAny d.maxh) domains → IsLengthIfAny (size_of_domain domains domain)
+length_of [] domain h = tt
+length_of (d ∷ ds) domain h = by (d.number == domain) (length_of ds domain h.1)
+  where
+    by : (b : Bool) → IsLengthIfAny (size_of_domain ds domain) → IsLengthIfAny (cond b d.maxh (size_of_domain ds domain))
+    by true rest = h.0
+    by false rest = rest
+
+pub least_length : (n : ℕ) (o : Option ℕ) → IsLength n → IsLengthIfAny o → IsLength (at_most n o)
+least_length n None h k = h
+least_length n (Some m) h k = record { least = omega (arith, h.least, k.least); greatest = omega (arith, h.greatest) }
+
+pub greatest_length : (g : PlanarMap) (greatest domain : ℕ) → IsGeometry g → IsLength greatest → IsLength (greatest_in g.domains greatest domain)
+greatest_length g greatest domain h k = least_length greatest (size_of_domain g.domains domain) k (length_of g.domains domain (recursion_from_All (λ d. IsLengthIfAny d.maxh) g.domains h.domain_sizes))

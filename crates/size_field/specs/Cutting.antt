@@ -6,7 +6,8 @@
 -- field_before   the sizes of a domain before cutting
 -- bound          how long a piece of a segment may be whose middle is this point
 -- pieces_of      the pieces of a geometry
-use Rattle.std.specs.Prelude.{ℕ, zero, suc, ◌+◌, ◌==◌, min, nat_lt, if◌then◌else◌, Option, Some, None, List, [], ◌∷◌, ◌++◌, map, slice_index_or, ℤ, pos, ◌+ℤ◌, ◌*ℤ◌}
+-- IsMiddle       what the middle between two points is
+use Rattle.std.specs.Prelude.{◌≡◌, ℕ, zero, suc, ◌+◌, ◌==◌, min, nat_lt, if◌then◌else◌, Option, Some, None, List, [], ◌∷◌, ◌++◌, map, slice_index_or, ℤ, pos, ◌+ℤ◌, ◌*ℤ◌}
 use Rattle.std.specs.Int.{int_div_euclid}
 use Rattle.std.specs.Ordering.{int_eq}
 use Rattle.grid_geom.specs.declared.Point.{Point}
@@ -120,3 +121,8 @@ pieces_from cut n (s ∷ ss) = map (piece_of n) (cut s) ++ pieces_from cut (n + 
 -- the pieces of a geometry, segment by segment
 abbrev pub pieces_of : PlanarMap → ℕ → ℕ → List Piece
 pieces_of g greatest grading = pieces_from (parts_of g greatest grading) 1 g.segments
+
+-- m is in the middle between a and b
+pub record IsMiddle (m a b : Point) : Type 0 where
+  pub x : pos 2 *ℤ m.x ≡ a.x +ℤ b.x
+  pub y : pos 2 *ℤ m.y ≡ a.y +ℤ b.y

@@ -49,9 +49,9 @@ pub fn extent(a: &Point, b: &Point) -> u64
 
 /// What bounds the pieces of a segment: the sources of sizes, and the greatest length.
 #[derive(Clone, Copy)]
-struct Bound<'a> {
-    sizes: &'a Sizes,
-    most: u64,
+pub(super) struct Bound<'a> {
+    pub(super) sizes: &'a Sizes,
+    pub(super) most: u64,
 }
 
 /// Where a piece is cut: in its middle, where that is a grid point, and the piece's longer extent is
@@ -86,7 +86,7 @@ fn next_cut(bound: &Bound<'_>, edge: &Edge, halvings: u32) -> Option<Point>
 }
 
 /// Adds the pieces of an edge of a segment, where each may be halved so often.
-fn push_parts(
+pub(super) fn push_parts(
     pieces: &mut Vec<Piece>,
     bound: &Bound<'_>,
     segment: usize,

@@ -1,4 +1,4 @@
-use Rattle.std.proofs.Common.{◌≡◌, ℕ, ◌+◌, ◌++◌, List, map, OnOk, subst, None}
+use Rattle.std.proofs.Common.{◌≡◌, ◌+◌, ◌++◌, List, map, OnOk, subst, None}
 use Rattle.geom_check.specs.declared.kinds.Segment.{Segment}
 use Rattle.grid_geom.specs.declared.Edge.{Edge}
 use Rattle.size_field.specs.Cutting.{piece_of, segment_at}

@@ -1,5 +1,4 @@
 use Rattle.std.proofs.Common.{◌≡◌, take}
-use Rattle.size_field.specs.Size.{SizeField}
 use Rattle.size_field.proofs.fields.sizes_of_points.Given as goal
 
 abbrev pub invariant-loop-source : goal.invariant-loop-source
