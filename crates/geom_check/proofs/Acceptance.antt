@@ -1,6 +1,6 @@
 -- What was moved to the grid and found planar is the file's geometry.
 use Rattle.std.proofs.Common.{◌≡◌, List, map, All, to_z, of_z, sym, ◌∙◌, ap, subst, arith}
-use lib.IntN.{ℤ, pos, negsuc}
+use lib.IntN.{ℤ}
 use lib.Signed.{◌≤ℤ◌}
 use Rattle.std.proofs.lemmas.Int.{ints, to_z-of_z}
 use Rattle.std.specs.Int.{w32}
@@ -15,24 +15,25 @@ use Rattle.geom_check.specs.Placed.{IsReadable, IsPlaced, points_of, segments_of
 use Rattle.geom_check.specs.Accepted.{NamesDomain, IsPlanar}
 use Rattle.geom_check.specs.Boundary.{IsBoundaryNumber}
 use Rattle.geom_check.specs.Domains.{domain_numbers}
-use Rattle.geom_check.specs.Geometry.{PlanarMap, IsLengthIfAny, IsSource, IsGeometry, IsGeometryOf, sources_of, domains_of}
+use Rattle.geom_check.specs.Geometry.{PlanarMap, IsLengthIfAny, IsSource, IsGeometry, IsGeometryOf, map_of, sources_of, domains_of}
 use Rattle.geom_check.proofs.PlacedGrid.{placed_joined}
 use Rattle.geom_check.proofs.KeptSizes.{all_sources, segment_sizes, boundary_numbers, domain_sizes, numbers_of}
 use Rattle.geom_check.proofs.Refusals.{accepted_placed}
+use Rattle.geom_check.specs.declared.limits.TheConstants.{COARSEST, FINEST}
 
 -- a shift is a number of 32 bits
-shift_kept : (shift : ℤ) → negsuc 5 ≤ℤ shift → shift ≤ℤ pos 8 → to_z w32 (of_z w32 shift) ≡ shift
+shift_kept : (shift : ℤ) → COARSEST ≤ℤ shift → shift ≤ℤ FINEST → to_z w32 (of_z w32 shift) ≡ shift
 shift_kept shift h j = to_z-of_z w32 shift (omega (arith, ints))
 
-abbrev pub map_of : Placed → ℤ → List Source → List Domain → PlanarMap
-map_of placed shift flagged domains = record { shift = shift; points = placed.points; segments = placed.segments; flagged = flagged; domains = domains }
+abbrev pub placed_map : Placed → ℤ → List Source → List Domain → PlanarMap
+placed_map placed shift flagged domains = map_of shift placed.points placed.segments flagged domains
 
 is_geometry : (raw : RawGeometry) (placed : Placed) (shift : ℤ) (flagged : List Source) (domains : List Domain) → IsReadable raw → IsPlaced raw placed → IsPlanar placed.points placed.segments →
-    placed.shift ≡ shift → flagged ≡ sources_of shift raw.points → domains ≡ domains_of shift placed.segments raw.materials → IsGeometry (map_of placed shift flagged domains)
+    placed.shift ≡ shift → flagged ≡ sources_of shift raw.points → domains ≡ domains_of shift placed.segments raw.materials → IsGeometry (placed_map placed shift flagged domains)
 is_geometry raw placed shift flagged domains h is planar e f g = let j = placed_joined raw placed h is in record {
   planar = planar;
-  shift_least = subst (λ (d : ℤ). negsuc 5 ≤ℤ d) e is.shift.least;
-  shift_greatest = subst (λ (d : ℤ). d ≤ℤ pos 8) e is.shift.greatest;
+  shift_least = subst (λ (d : ℤ). COARSEST ≤ℤ d) e is.shift.least;
+  shift_greatest = subst (λ (d : ℤ). d ≤ℤ FINEST) e is.shift.greatest;
   on_grid = j.on_grid;
   joined = j.joined;
   few_points = j.few_points;
@@ -46,12 +47,12 @@ is_geometry raw placed shift flagged domains h is planar e f g = let j = placed_
 
 pub geometry_placed : (raw : RawGeometry) (placed : Placed) (flagged : List Source) (domains : List Domain) → IsReadable raw → IsPlaced raw placed → IsPlanar placed.points placed.segments →
     flagged ≡ sources_of (to_z w32 (of_z w32 placed.shift)) raw.points → domains ≡ domains_of (to_z w32 (of_z w32 placed.shift)) placed.segments raw.materials →
-    IsGeometry (map_of placed (to_z w32 (of_z w32 placed.shift)) flagged domains)
+    IsGeometry (placed_map placed (to_z w32 (of_z w32 placed.shift)) flagged domains)
 geometry_placed raw placed flagged domains h is planar =
     is_geometry raw placed (to_z w32 (of_z w32 placed.shift)) flagged domains h is planar (sym (shift_kept placed.shift is.shift.least is.shift.greatest))
 
 geometry_is : (raw : RawGeometry) (placed : Placed) (shift : ℤ) (flagged : List Source) (domains : List Domain) → Any NamesDomain raw.segments → IsPlaced raw placed → IsPlanar placed.points placed.segments →
-    placed.shift ≡ shift → flagged ≡ sources_of shift raw.points → domains ≡ domains_of shift placed.segments raw.materials → IsGeometryOf raw (map_of placed shift flagged domains)
+    placed.shift ≡ shift → flagged ≡ sources_of shift raw.points → domains ≡ domains_of shift placed.segments raw.materials → IsGeometryOf raw (placed_map placed shift flagged domains)
 geometry_is raw placed shift flagged domains named is planar e f g = record {
   accepted = accepted_placed raw placed named is planar;
   shift = subst (λ (d : ℤ). IsShift d raw.points) e is.shift;
@@ -62,7 +63,7 @@ geometry_is raw placed shift flagged domains named is planar e f g = record {
 }
 
 pub geometry_of_placed : (raw : RawGeometry) (placed : Placed) (flagged : List Source) (domains : List Domain) (g : PlanarMap) → Any NamesDomain raw.segments → IsPlaced raw placed → IsPlanar placed.points placed.segments →
-    flagged ≡ sources_of (to_z w32 (of_z w32 placed.shift)) raw.points → domains ≡ domains_of (to_z w32 (of_z w32 placed.shift)) placed.segments raw.materials → g ≡ map_of placed (to_z w32 (of_z w32 placed.shift)) flagged domains → IsGeometryOf raw g
+    flagged ≡ sources_of (to_z w32 (of_z w32 placed.shift)) raw.points → domains ≡ domains_of (to_z w32 (of_z w32 placed.shift)) placed.segments raw.materials → g ≡ placed_map placed (to_z w32 (of_z w32 placed.shift)) flagged domains → IsGeometryOf raw g
 geometry_of_placed raw placed flagged domains g named is planar e f j =
     let kept = sym (shift_kept placed.shift is.shift.least is.shift.greatest) in
     subst (IsGeometryOf raw) (sym j) (geometry_is raw placed (to_z w32 (of_z w32 placed.shift)) flagged domains named is planar kept e f)

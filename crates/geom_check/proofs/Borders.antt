@@ -7,7 +7,7 @@ use Rattle.grid_geom.specs.declared.RatPoint.{RatPoint}
 use Rattle.grid_geom.specs.Plane.{orient_rat}
 use Rattle.grid_geom.specs.Winding.{and}
 use Rattle.geom_check.specs.declared.risers.Riser.{Riser}
-use Rattle.geom_check.specs.Accepted.{IsSide}
+use Rattle.geom_check.specs.Accepted.{IsZeroOrOne}
 use Rattle.geom_check.specs.Risers.{covers, is_beside, one_if, wests, easts, winding_of}
 use Rattle.geom_check.specs.RiserOrder.{IsSoundAll, is_border}
 use Rattle.geom_check.proofs.RiserWinding.{winding_cons}
@@ -40,7 +40,7 @@ winding_borders chosen q (r ∷ rs) = by_test (is_border chosen r) refl (winding
 
 -- where the winding number is 0 or 1 off the borders, it is so off all risers
 pub sound_borders : (chosen : ℕ → Bool) (rs : List Riser) → IsSoundAll chosen (filter (is_border chosen) rs) → IsSoundAll chosen rs
-sound_borders chosen rs sound q rational off = subst (λ (n : ℤ). IsSide n) (winding_borders chosen q rs) (sound q rational (All-filter (is_border chosen) (λ r. is_beside q r ≡ true → orient_rat r.a r.b q ≢ pos 0) rs off))
+sound_borders chosen rs sound q rational off = subst (λ (n : ℤ). IsZeroOrOne n) (winding_borders chosen q rs) (sound q rational (All-filter (is_border chosen) (λ r. is_beside q r ≡ true → orient_rat r.a r.b q ≢ pos 0) rs off))
 
 -- a border is one of the risers
 pub border_among : (chosen : ℕ → Bool) (rs : List Riser) (r : Riser) → Contains (filter (is_border chosen) rs) r → Contains rs r

@@ -1,5 +1,5 @@
 -- A boundary is closed where it is balanced at each point of the file.
-use Rattle.std.proofs.Common.{◌≡◌, ℕ, zero, suc, ◌+◌, ◌-◌, ◌<◌, ◌≤◌, ◌==◌, Bool, true, false, cond, List, [], ◌∷◌, length, slice_index_or, All, pos, ◌⊎◌, inl, inr, sym, ◌∙◌, ap, refl, subst, arith}
+use Rattle.std.proofs.Common.{◌≡◌, ℕ, zero, suc, ◌+◌, ◌-◌, ◌<◌, ◌==◌, Bool, true, false, cond, List, [], ◌∷◌, length, slice_index_or, All, pos, ◌⊎◌, inl, inr, sym, ◌∙◌, ap, refl, subst, arith, drop, add-one}
 use Rattle.std.specs.List.{AllByRecursion}
 use Rattle.std.proofs.lemmas.List.Elements.{recursion_from_All}
 use Rattle.std.proofs.lemmas.Bool.{cases_lt}
@@ -11,7 +11,9 @@ use Rattle.grid_geom.specs.Winding.{and}
 use Rattle.geom_check.proofs.LeastPairs.{same_parts}
 use Rattle.std.specs.Ordering.{int_eq}
 use Rattle.geom_check.specs.declared.kinds.Segment.{Segment}
-use Rattle.geom_check.specs.Boundary.{edge_of, reversed, with_edge, boundary, IsSegmentOf}
+use Rattle.geom_check.specs.Boundary.{edge_of, back, with_edge, boundary, IsSegmentOf, departures_of, arrivals_of}
+use Rattle.geom_check.specs.declared.limits.TheConstants.{MOST_DOMAINS}
+use Rattle.std.proofs.Math.Seq.{drop-cons}
 
 -- a test is passed by some number below n, or by none
 pub search_below : (f : ℕ → Bool) (n : ℕ) → ((k : ℕ) × (k < n) × (f k ≡ true)) ⊎ ((k : ℕ) → k < n → f k ≡ false)
@@ -54,14 +56,14 @@ Misses w points = (k : ℕ) → k < length points → same_point (slice_index_or
 none_leave_boundary : (w : Point) (points : List Point) (d : ℕ) (ss : List Segment) → Misses w points → AllByRecursion (IsSegmentOf (length points)) ss → leaving w (boundary points d ss) ≡ 0
 none_leave_boundary w points d [] m a = refl
 none_leave_boundary w points d (s ∷ ss) m a =
-    none_leave w (s.left == d) (edge_of points s) (with_edge (s.right == d) (reversed (edge_of points s)) (boundary points d ss)) (m (s.p - 1) (omega (arith, a.0.p_least, a.0.p_greatest)))
-    (none_leave w (s.right == d) (reversed (edge_of points s)) (boundary points d ss) (m (s.q - 1) (omega (arith, a.0.q_least, a.0.q_greatest))) (none_leave_boundary w points d ss m a.1))
+    none_leave w (s.left == d) (edge_of points s) (with_edge (s.right == d) (back (edge_of points s)) (boundary points d ss)) (m (s.p - 1) (omega (arith, a.0.p_least, a.0.p_greatest)))
+    (none_leave w (s.right == d) (back (edge_of points s)) (boundary points d ss) (m (s.q - 1) (omega (arith, a.0.q_least, a.0.q_greatest))) (none_leave_boundary w points d ss m a.1))
 
 none_arrive_boundary : (w : Point) (points : List Point) (d : ℕ) (ss : List Segment) → Misses w points → AllByRecursion (IsSegmentOf (length points)) ss → arriving w (boundary points d ss) ≡ 0
 none_arrive_boundary w points d [] m a = refl
 none_arrive_boundary w points d (s ∷ ss) m a =
-    none_arrive w (s.left == d) (edge_of points s) (with_edge (s.right == d) (reversed (edge_of points s)) (boundary points d ss)) (m (s.q - 1) (omega (arith, a.0.q_least, a.0.q_greatest)))
-    (none_arrive w (s.right == d) (reversed (edge_of points s)) (boundary points d ss) (m (s.p - 1) (omega (arith, a.0.p_least, a.0.p_greatest))) (none_arrive_boundary w points d ss m a.1))
+    none_arrive w (s.left == d) (edge_of points s) (with_edge (s.right == d) (back (edge_of points s)) (boundary points d ss)) (m (s.q - 1) (omega (arith, a.0.q_least, a.0.q_greatest)))
+    (none_arrive w (s.right == d) (back (edge_of points s)) (boundary points d ss) (m (s.p - 1) (omega (arith, a.0.p_least, a.0.p_greatest))) (none_arrive_boundary w points d ss m a.1))
 
 pub closed_by : (points : List Point) (d : ℕ) (ss : List Segment) → AllByRecursion (IsSegmentOf (length points)) ss → All (λ p. leaving p (boundary points d ss) ≡ arriving p (boundary points d ss)) points → IsClosed (boundary points d ss)
 closed_by points d ss a balanced = record {
@@ -75,11 +77,11 @@ differs : (m n : ℕ) → m < n → (m == n) ≡ false
 differs m n h = grind arith
 
 -- a domain above all that segments name has no boundary
-pub no_boundary : (points : List Point) (d : ℕ) (ss : List Segment) → 64 < d → AllByRecursion (IsSegmentOf (length points)) ss → boundary points d ss ≡ []
+pub no_boundary : (points : List Point) (d : ℕ) (ss : List Segment) → MOST_DOMAINS < d → AllByRecursion (IsSegmentOf (length points)) ss → boundary points d ss ≡ []
 no_boundary points d [] h a = refl
 no_boundary points d (s ∷ ss) h a =
-    ap (λ (b : Bool). with_edge b (edge_of points s) (with_edge (s.right == d) (reversed (edge_of points s)) (boundary points d ss))) (differs s.left d (omega (arith, a.0.left)))
-    ∙ ap (λ (b : Bool). with_edge b (reversed (edge_of points s)) (boundary points d ss)) (differs s.right d (omega (arith, a.0.right))) ∙ no_boundary points d ss h a.1
+    ap (λ (b : Bool). with_edge b (edge_of points s) (with_edge (s.right == d) (back (edge_of points s)) (boundary points d ss))) (differs s.left d (omega (arith, a.0.left)))
+    ∙ ap (λ (b : Bool). with_edge b (back (edge_of points s)) (boundary points d ss)) (differs s.right d (omega (arith, a.0.right))) ∙ no_boundary points d ss h a.1
 
 pub closed_next : (points : List Point) (ss : List Segment) (d : ℕ) (edges : List Edge) → edges ≡ boundary points d ss → All (IsSegmentOf (length points)) ss → All (λ p. leaving p edges ≡ arriving p edges) points →
     ((c : ℕ) → 0 < c → c < d → IsClosed (boundary points c ss)) → (c : ℕ) → 0 < c → c < d + 1 → IsClosed (boundary points c ss)
@@ -91,8 +93,16 @@ closed_next points ss d edges e a balanced before c h j = elim (cases_lt c d) [
       (closed_by points d ss (recursion_from_All (IsSegmentOf (length points)) ss a) (subst (λ (es : List Edge). All (λ p. leaving p es ≡ arriving p es) points) e balanced))
 ]
 
-pub closed_all : (points : List Point) (ss : List Segment) (d : ℕ) → 65 ≤ d → All (IsSegmentOf (length points)) ss → ((c : ℕ) → 0 < c → c < d → IsClosed (boundary points c ss)) → (c : ℕ) → 0 < c → IsClosed (boundary points c ss)
+pub closed_all : (points : List Point) (ss : List Segment) (d : ℕ) → MOST_DOMAINS < d → All (IsSegmentOf (length points)) ss → ((c : ℕ) → 0 < c → c < d → IsClosed (boundary points c ss)) → (c : ℕ) → 0 < c → IsClosed (boundary points c ss)
 closed_all points ss d h a before c j = elim (cases_lt c d) [
   | inl k ↦ before c j k
   | inr k ↦ subst (λ (es : List Edge). IsClosed es) (sym (no_boundary points c ss (omega arith) (recursion_from_All (IsSegmentOf (length points)) ss a))) (record { balanced = λ w. refl })
 ]
+
+-- ---- counts of edges, one after another
+-- the counts of the edges from place i on
+pub leaving_drop : (w : Point) (es : List Edge) (i : ℕ) (d : Edge) → i < length es → leaving w (drop i es) ≡ departures_of (slice_index_or es i d) w + leaving w (drop (i + 1) es)
+leaving_drop w es i d h = rw (add-one i) (ap (leaving w) (drop-cons es i d h))
+
+pub arriving_drop : (w : Point) (es : List Edge) (i : ℕ) (d : Edge) → i < length es → arriving w (drop i es) ≡ arrivals_of (slice_index_or es i d) w + arriving w (drop (i + 1) es)
+arriving_drop w es i d h = rw (add-one i) (ap (arriving w) (drop-cons es i d h))

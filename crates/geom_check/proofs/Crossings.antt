@@ -15,16 +15,17 @@ use Rattle.geom_check.specs.Risers.{IsRiserOf, rising, falling, AreRisersOf}
 use Rattle.geom_check.specs.RiserOrder.{over, under, IsAt, IsWest, IsPassing}
 use Rattle.geom_check.proofs.RiserOrder.{across}
 use Rattle.geom_check.proofs.RiserPlace.{tall, side_at}
+use Rattle.grid_geom.specs.declared.TheConstants.{GRID}
 
 -- the place where a riser crosses the height y/2
 abbrev pub place : ℤ → Riser → RatPoint
-place y r = record { x = pos 2 *ℤ (over y r -ℤ pos 1048576 *ℤ under r); y = y *ℤ under r; k = pos 2 *ℤ under r }
+place y r = record { x = pos 2 *ℤ (over y r -ℤ GRID *ℤ under r); y = y *ℤ under r; k = pos 2 *ℤ under r }
 
 halved : (m : ℤ) → pos 2 *ℤ m ≡ pos 0 → m ≡ pos 0
 halved m e = omega (arith, ints)
 
 pub place_on : (y : ℤ) (r : Riser) → orient_rat r.a r.b (place y r) ≡ pos 0
-place_on y r = halved _ (side_at y r (place y r) (at (y) (under r)) ∙ ring (over y r ∷ under r ∷ []) ((num (pos 2) ⊗ var 1) ⊗ (var 0 ⊖ num (pos 1048576) ⊗ var 1) ⊖ var 1 ⊗ (num (pos 2) ⊗ (var 0 ⊖ num (pos 1048576) ⊗ var 1))) (num (pos 0)) refl)
+place_on y r = halved _ (side_at y r (place y r) (at (y) (under r)) ∙ ring (over y r ∷ under r ∷ []) ((num (pos 2) ⊗ var 1) ⊗ (var 0 ⊖ num GRID ⊗ var 1) ⊖ var 1 ⊗ (num (pos 2) ⊗ (var 0 ⊖ num GRID ⊗ var 1))) (num (pos 0)) refl)
   where
     at : (y u : ℤ) → pos 2 *ℤ (y *ℤ u) ≡ y *ℤ (pos 2 *ℤ u)
     at y u = ring (y ∷ u ∷ []) (num (pos 2) ⊗ (var 0 ⊗ var 1)) (var 0 ⊗ (num (pos 2) ⊗ var 1)) refl
@@ -99,17 +100,17 @@ edge_at low high edges rs r h are c p =
 
 -- ---- the order of places on risers is that of the risers
 -- how far q is from the left end of the grid, where it is on the riser
-pub along : (y : ℤ) (r : Riser) (q : RatPoint) → IsAt y q → orient_rat r.a r.b q ≡ pos 0 → under r *ℤ q.x ≡ q.k *ℤ (over y r -ℤ pos 1048576 *ℤ under r)
+pub along : (y : ℤ) (r : Riser) (q : RatPoint) → IsAt y q → orient_rat r.a r.b q ≡ pos 0 → under r *ℤ q.x ≡ q.k *ℤ (over y r -ℤ GRID *ℤ under r)
 along y r q e z = same _ _ _ (side_at y r q e) z
   where
     same : (o m n : ℤ) → pos 2 *ℤ o ≡ m -ℤ n → o ≡ pos 0 → n ≡ m
     same o m n e f = omega (arith, ints)
 
-apart : (x k o u z m p w : ℤ) → u *ℤ x ≡ k *ℤ (o -ℤ pos 1048576 *ℤ u) → w *ℤ z ≡ m *ℤ (p -ℤ pos 1048576 *ℤ w) → (u *ℤ w) *ℤ (z *ℤ k -ℤ x *ℤ m) ≡ (k *ℤ m) *ℤ (p *ℤ u -ℤ o *ℤ w)
+apart : (x k o u z m p w : ℤ) → u *ℤ x ≡ k *ℤ (o -ℤ GRID *ℤ u) → w *ℤ z ≡ m *ℤ (p -ℤ GRID *ℤ w) → (u *ℤ w) *ℤ (z *ℤ k -ℤ x *ℤ m) ≡ (k *ℤ m) *ℤ (p *ℤ u -ℤ o *ℤ w)
 apart x k o u z m p w e f =
     ring (x ∷ k ∷ u ∷ z ∷ m ∷ w ∷ []) ((var 2 ⊗ var 5) ⊗ (var 3 ⊗ var 1 ⊖ var 0 ⊗ var 4)) ((var 5 ⊗ var 3) ⊗ (var 1 ⊗ var 2) ⊖ (var 2 ⊗ var 0) ⊗ (var 4 ⊗ var 5)) refl
-    ∙ ap (λ (n : ℤ). n *ℤ (k *ℤ u) -ℤ (u *ℤ x) *ℤ (m *ℤ w)) f ∙ ap (λ (n : ℤ). (m *ℤ (p -ℤ pos 1048576 *ℤ w)) *ℤ (k *ℤ u) -ℤ n *ℤ (m *ℤ w)) e
-    ∙ ring (k ∷ o ∷ u ∷ m ∷ p ∷ w ∷ []) ((var 3 ⊗ (var 4 ⊖ num (pos 1048576) ⊗ var 5)) ⊗ (var 0 ⊗ var 2) ⊖ (var 0 ⊗ (var 1 ⊖ num (pos 1048576) ⊗ var 2)) ⊗ (var 3 ⊗ var 5)) ((var 0 ⊗ var 3) ⊗ (var 4 ⊗ var 2 ⊖ var 1 ⊗ var 5)) refl
+    ∙ ap (λ (n : ℤ). n *ℤ (k *ℤ u) -ℤ (u *ℤ x) *ℤ (m *ℤ w)) f ∙ ap (λ (n : ℤ). (m *ℤ (p -ℤ GRID *ℤ w)) *ℤ (k *ℤ u) -ℤ n *ℤ (m *ℤ w)) e
+    ∙ ring (k ∷ o ∷ u ∷ m ∷ p ∷ w ∷ []) ((var 3 ⊗ (var 4 ⊖ num GRID ⊗ var 5)) ⊗ (var 0 ⊗ var 2) ⊖ (var 0 ⊗ (var 1 ⊖ num GRID ⊗ var 2)) ⊗ (var 3 ⊗ var 5)) ((var 0 ⊗ var 3) ⊗ (var 4 ⊗ var 2 ⊖ var 1 ⊗ var 5)) refl
 
 pub positive_by : (a b c d : ℤ) → a *ℤ b ≡ c *ℤ d → pos 0 <ℤ a → pos 0 <ℤ c → pos 0 <ℤ d → pos 0 <ℤ b
 positive_by a b c d e h j k = pos_factor a b (subst (λ (n : ℤ). pos 0 <ℤ n) (sym e) (pos_mul c d j k)) (weak a h)

@@ -11,7 +11,9 @@ use Rattle.grid_geom.proofs.Signs.{pos_factor, le_cancel, le_mul}
 use Rattle.geom_check.specs.declared.risers.Riser.{Riser}
 use Rattle.geom_check.specs.RiserOrder.{over, under}
 use Rattle.geom_check.specs.Gaps.{IsDivisor, IsLeastAt, from_corner, middle}
-use Rattle.geom_check.specs.Strips.{IsSamePlace}
+use Rattle.wind_law.specs.Near.{IsSamePlace}
+use Rattle.geom_check.specs.declared.limits.TheConstants.{WIDTH}
+use Rattle.grid_geom.specs.declared.TheConstants.{GRID}
 
 product : (m n : ℕ) → pos (m * n) ≡ pos m *ℤ pos n
 product m n = omega (arith, ints)
@@ -81,15 +83,15 @@ cancelled g a b h e = both a b (le_cancel a b g h (subst (λ (n : ℤ). (a *ℤ 
     same a = omega (arith, ints)
 
 -- the numbers of a place, divided by a common divisor that is a sum of their multiples
-least_by : (q : RatPoint) (x y k g u v w : ℤ) → pos 0 <ℤ g → pos 0 <ℤ q.k → (q.x +ℤ pos 1048576 *ℤ q.k) *ℤ g ≡ x → (q.y +ℤ pos 1048576 *ℤ q.k) *ℤ g ≡ y → q.k *ℤ g ≡ k → u *ℤ x +ℤ v *ℤ y +ℤ w *ℤ k ≡ g → (s : RatPoint) → IsRational s → IsSamePlace q s → q.k ≤ℤ s.k
+least_by : (q : RatPoint) (x y k g u v w : ℤ) → pos 0 <ℤ g → pos 0 <ℤ q.k → (q.x +ℤ GRID *ℤ q.k) *ℤ g ≡ x → (q.y +ℤ GRID *ℤ q.k) *ℤ g ≡ y → q.k *ℤ g ≡ k → u *ℤ x +ℤ v *ℤ y +ℤ w *ℤ k ≡ g → (s : RatPoint) → IsRational s → IsSamePlace q s → q.k ≤ℤ s.k
 least_by q x y k g u v w hg hk ex ey ek e s rational same =
-    multiple q.k (u *ℤ s.x +ℤ v *ℤ s.y +ℤ (w +ℤ pos 1048576 *ℤ (u +ℤ v)) *ℤ s.k) s.k (scaled u v (w +ℤ pos 1048576 *ℤ (u +ℤ v)) q.x q.y q.k s.x s.y s.k one same.x same.y) hk rational.positive
+    multiple q.k (u *ℤ s.x +ℤ v *ℤ s.y +ℤ (w +ℤ GRID *ℤ (u +ℤ v)) *ℤ s.k) s.k (scaled u v (w +ℤ GRID *ℤ (u +ℤ v)) q.x q.y q.k s.x s.y s.k one same.same_x same.same_y) hk rational.positive
   where
-    one : u *ℤ q.x +ℤ v *ℤ q.y +ℤ (w +ℤ pos 1048576 *ℤ (u +ℤ v)) *ℤ q.k ≡ pos 1
+    one : u *ℤ q.x +ℤ v *ℤ q.y +ℤ (w +ℤ GRID *ℤ (u +ℤ v)) *ℤ q.k ≡ pos 1
     one = cancelled g _ (pos 1) hg
-        (ring (u ∷ v ∷ w ∷ q.x ∷ q.y ∷ q.k ∷ g ∷ []) ((var 0 ⊗ var 3 ⊕ var 1 ⊗ var 4 ⊕ (var 2 ⊕ num (pos 1048576) ⊗ (var 0 ⊕ var 1)) ⊗ var 5) ⊗ var 6)
-        (var 0 ⊗ ((var 3 ⊕ num (pos 1048576) ⊗ var 5) ⊗ var 6) ⊕ var 1 ⊗ ((var 4 ⊕ num (pos 1048576) ⊗ var 5) ⊗ var 6) ⊕ var 2 ⊗ (var 5 ⊗ var 6)) refl
-        ∙ ap (λ (n : ℤ). u *ℤ n +ℤ v *ℤ ((q.y +ℤ pos 1048576 *ℤ q.k) *ℤ g) +ℤ w *ℤ (q.k *ℤ g)) ex ∙ ap (λ (n : ℤ). u *ℤ x +ℤ v *ℤ n +ℤ w *ℤ (q.k *ℤ g)) ey ∙ ap (λ (n : ℤ). u *ℤ x +ℤ v *ℤ y +ℤ w *ℤ n) ek ∙ e ∙ once g)
+        (ring (u ∷ v ∷ w ∷ q.x ∷ q.y ∷ q.k ∷ g ∷ []) ((var 0 ⊗ var 3 ⊕ var 1 ⊗ var 4 ⊕ (var 2 ⊕ num GRID ⊗ (var 0 ⊕ var 1)) ⊗ var 5) ⊗ var 6)
+        (var 0 ⊗ ((var 3 ⊕ num GRID ⊗ var 5) ⊗ var 6) ⊕ var 1 ⊗ ((var 4 ⊕ num GRID ⊗ var 5) ⊗ var 6) ⊕ var 2 ⊗ (var 5 ⊗ var 6)) refl
+        ∙ ap (λ (n : ℤ). u *ℤ n +ℤ v *ℤ ((q.y +ℤ GRID *ℤ q.k) *ℤ g) +ℤ w *ℤ (q.k *ℤ g)) ex ∙ ap (λ (n : ℤ). u *ℤ x +ℤ v *ℤ n +ℤ w *ℤ (q.k *ℤ g)) ey ∙ ap (λ (n : ℤ). u *ℤ x +ℤ v *ℤ y +ℤ w *ℤ n) ek ∙ e ∙ once g)
       where
         once : (g : ℤ) → g ≡ pos 1 *ℤ g
         once g = omega (arith, ints)
@@ -118,10 +120,10 @@ quotient_positive k g p h e = divisor_positive k (k / g) g h (whole (k / g) g k 
     whole a b c e = omega (arith, ints)
 
 -- the numbers of a place, divided by their common divisor
-pub least_at : (x y k g h : ℕ) (q : RatPoint) → 0 < k → IsDivisor x y h → IsDivisor h k g → q.x ≡ pos (x / g) -ℤ pos 1048576 *ℤ pos (k / g) → q.y ≡ pos (y / g) -ℤ pos 1048576 *ℤ pos (k / g) → q.k ≡ pos (k / g) → IsLeastAt (from_corner x y k) q
+pub least_at : (x y k g h : ℕ) (q : RatPoint) → 0 < k → IsDivisor x y h → IsDivisor h k g → q.x ≡ pos (x / g) -ℤ GRID *ℤ pos (k / g) → q.y ≡ pos (y / g) -ℤ GRID *ℤ pos (k / g) → q.k ≡ pos (k / g) → IsLeastAt (from_corner x y k) q
 least_at x y k g h q hk d f ex ey ek = record {
   rational = record { positive = rational };
-  same = record { x = place q.x x (x / g) ex x_is; y = place q.y y (y / g) ey y_is };
+  same = record { same_x = place q.x x (x / g) ex x_is; same_y = place q.y y (y / g) ey y_is };
   least = least_by q (pos x) (pos y) (pos k) (pos g) (f.times_a *ℤ d.times_a) (f.times_a *ℤ d.times_b) f.times_b (above g positive) rational (back q.x x (x / g) ex x_is) (back q.y y (y / g) ey y_is) (ap (λ (n : ℤ). n *ℤ pos g) ek ∙ k_is)
       (ring (f.times_a ∷ d.times_a ∷ d.times_b ∷ f.times_b ∷ pos x ∷ pos y ∷ pos k ∷ []) (var 0 ⊗ var 1 ⊗ var 4 ⊕ var 0 ⊗ var 2 ⊗ var 5 ⊕ var 3 ⊗ var 6) (var 0 ⊗ (var 1 ⊗ var 4 ⊕ var 2 ⊗ var 5) ⊕ var 3 ⊗ var 6) refl
       ∙ ap (λ (n : ℤ). f.times_a *ℤ n +ℤ f.times_b *ℤ pos k) d.sum ∙ f.sum);
@@ -145,22 +147,22 @@ least_at x y k g h q hk d f ex ey ek = record {
     rational : pos 0 <ℤ q.k
     rational = subst (λ (n : ℤ). pos 0 <ℤ n) (sym ek) (above (k / g) (quotient_positive k g f.part_b hk f.divides_b))
 
-    place : (z : ℤ) (n m : ℕ) → z ≡ pos m -ℤ pos 1048576 *ℤ pos (k / g) → pos m *ℤ pos g ≡ pos n → z *ℤ pos k ≡ (pos n -ℤ pos 1048576 *ℤ pos k) *ℤ q.k
-    place z n m e w = ap (λ (a : ℤ). a *ℤ pos k) e ∙ ap (λ (a : ℤ). (pos m -ℤ pos 1048576 *ℤ pos (k / g)) *ℤ a) (sym k_is)
-        ∙ ring (pos m ∷ pos (k / g) ∷ pos g ∷ []) ((var 0 ⊖ num (pos 1048576) ⊗ var 1) ⊗ (var 1 ⊗ var 2)) ((var 0 ⊗ var 2 ⊖ num (pos 1048576) ⊗ (var 1 ⊗ var 2)) ⊗ var 1) refl
-        ∙ ap (λ (a : ℤ). (a -ℤ pos 1048576 *ℤ (pos (k / g) *ℤ pos g)) *ℤ pos (k / g)) w ∙ ap (λ (a : ℤ). (pos n -ℤ pos 1048576 *ℤ a) *ℤ pos (k / g)) k_is ∙ ap (λ (a : ℤ). (pos n -ℤ pos 1048576 *ℤ pos k) *ℤ a) (sym ek)
+    place : (z : ℤ) (n m : ℕ) → z ≡ pos m -ℤ GRID *ℤ pos (k / g) → pos m *ℤ pos g ≡ pos n → z *ℤ pos k ≡ (pos n -ℤ GRID *ℤ pos k) *ℤ q.k
+    place z n m e w = ap (λ (a : ℤ). a *ℤ pos k) e ∙ ap (λ (a : ℤ). (pos m -ℤ GRID *ℤ pos (k / g)) *ℤ a) (sym k_is)
+        ∙ ring (pos m ∷ pos (k / g) ∷ pos g ∷ []) ((var 0 ⊖ num GRID ⊗ var 1) ⊗ (var 1 ⊗ var 2)) ((var 0 ⊗ var 2 ⊖ num GRID ⊗ (var 1 ⊗ var 2)) ⊗ var 1) refl
+        ∙ ap (λ (a : ℤ). (a -ℤ GRID *ℤ (pos (k / g) *ℤ pos g)) *ℤ pos (k / g)) w ∙ ap (λ (a : ℤ). (pos n -ℤ GRID *ℤ a) *ℤ pos (k / g)) k_is ∙ ap (λ (a : ℤ). (pos n -ℤ GRID *ℤ pos k) *ℤ a) (sym ek)
 
-    back : (z : ℤ) (n m : ℕ) → z ≡ pos m -ℤ pos 1048576 *ℤ pos (k / g) → pos m *ℤ pos g ≡ pos n → (z +ℤ pos 1048576 *ℤ q.k) *ℤ pos g ≡ pos n
-    back z n m e w = ap (λ (a : ℤ). (a +ℤ pos 1048576 *ℤ q.k) *ℤ pos g) e ∙ ap (λ (a : ℤ). (pos m -ℤ pos 1048576 *ℤ pos (k / g) +ℤ pos 1048576 *ℤ a) *ℤ pos g) ek
-        ∙ ring (pos m ∷ pos (k / g) ∷ pos g ∷ []) ((var 0 ⊖ num (pos 1048576) ⊗ var 1 ⊕ num (pos 1048576) ⊗ var 1) ⊗ var 2) (var 0 ⊗ var 2) refl ∙ w
+    back : (z : ℤ) (n m : ℕ) → z ≡ pos m -ℤ GRID *ℤ pos (k / g) → pos m *ℤ pos g ≡ pos n → (z +ℤ GRID *ℤ q.k) *ℤ pos g ≡ pos n
+    back z n m e w = ap (λ (a : ℤ). (a +ℤ GRID *ℤ q.k) *ℤ pos g) e ∙ ap (λ (a : ℤ). (pos m -ℤ GRID *ℤ pos (k / g) +ℤ GRID *ℤ a) *ℤ pos g) ek
+        ∙ ring (pos m ∷ pos (k / g) ∷ pos g ∷ []) ((var 0 ⊖ num GRID ⊗ var 1 ⊕ num GRID ⊗ var 1) ⊗ var 2) (var 0 ⊗ var 2) refl ∙ w
 
 -- ---- the middle between two risers, from the lower left corner of the grid
 abbrev place_of : ℤ → ℤ → ℤ → RatPoint
 place_of x y k = record { x = x; y = y; k = k }
 
-pub corner_is : (y : ℤ) (r s : Riser) (lo lu ro ru h : ℕ) → pos lo ≡ over y r → pos lu ≡ under r → pos ro ≡ over y s → pos ru ≡ under s → pos h ≡ y +ℤ pos 2097152 → from_corner (lo * ru + ro * lu) (h * (lu * ru)) (2 * (lu * ru)) ≡ middle y r s
+pub corner_is : (y : ℤ) (r s : Riser) (lo lu ro ru h : ℕ) → pos lo ≡ over y r → pos lu ≡ under r → pos ro ≡ over y s → pos ru ≡ under s → pos h ≡ y +ℤ pos WIDTH → from_corner (lo * ru + ro * lu) (h * (lu * ru)) (2 * (lu * ru)) ≡ middle y r s
 corner_is y r s lo lu ro ru h e f g j l =
-    ap (λ (n : ℤ). place_of n (pos (h * (lu * ru)) -ℤ pos 1048576 *ℤ pos (2 * (lu * ru))) (pos (2 * (lu * ru)))) across
+    ap (λ (n : ℤ). place_of n (pos (h * (lu * ru)) -ℤ GRID *ℤ pos (2 * (lu * ru))) (pos (2 * (lu * ru)))) across
     ∙ ap (λ (n : ℤ). place_of (middle y r s).x n (pos (2 * (lu * ru)))) up ∙ ap (λ (n : ℤ). place_of (middle y r s).x (middle y r s).y n) parts
   where
     doubled : (n : ℕ) → pos (2 * n) ≡ pos 2 *ℤ pos n
@@ -181,14 +183,14 @@ corner_is y r s lo lu ro ru h e f g j l =
     second : pos (ro * lu) ≡ over y s *ℤ under r
     second = product ro lu ∙ ap (λ (n : ℤ). n *ℤ pos lu) g ∙ ap (λ (n : ℤ). over y s *ℤ n) f
 
-    across_by : (t k m n u : ℤ) → t ≡ m +ℤ n → k ≡ pos 2 *ℤ u → t -ℤ pos 1048576 *ℤ k ≡ m +ℤ n -ℤ pos 2097152 *ℤ u
+    across_by : (t k m n u : ℤ) → t ≡ m +ℤ n → k ≡ pos 2 *ℤ u → t -ℤ GRID *ℤ k ≡ m +ℤ n -ℤ pos WIDTH *ℤ u
     across_by t k m n u e f = omega (arith, ints)
 
-    across : pos (lo * ru + ro * lu) -ℤ pos 1048576 *ℤ pos (2 * (lu * ru)) ≡ (middle y r s).x
+    across : pos (lo * ru + ro * lu) -ℤ GRID *ℤ pos (2 * (lu * ru)) ≡ (middle y r s).x
     across = across_by (pos (lo * ru + ro * lu)) (pos (2 * (lu * ru))) (over y r *ℤ under s) (over y s *ℤ under r) (under r *ℤ under s)
         (summed (lo * ru) (ro * lu) ∙ ap (λ (n : ℤ). n +ℤ pos (ro * lu)) first ∙ ap (λ (n : ℤ). over y r *ℤ under s +ℤ n) second) parts
 
-    up : pos (h * (lu * ru)) -ℤ pos 1048576 *ℤ pos (2 * (lu * ru)) ≡ (middle y r s).y
-    up = ap (λ (n : ℤ). n -ℤ pos 1048576 *ℤ pos (2 * (lu * ru))) (product h (lu * ru) ∙ ap (λ (n : ℤ). n *ℤ pos (lu * ru)) l ∙ ap (λ (n : ℤ). (y +ℤ pos 2097152) *ℤ n) unders)
-        ∙ ap (λ (n : ℤ). (y +ℤ pos 2097152) *ℤ (under r *ℤ under s) -ℤ pos 1048576 *ℤ n) parts
-        ∙ ring (y ∷ (under r *ℤ under s) ∷ []) ((var 0 ⊕ num (pos 2097152)) ⊗ var 1 ⊖ num (pos 1048576) ⊗ (num (pos 2) ⊗ var 1)) (var 0 ⊗ var 1) refl
+    up : pos (h * (lu * ru)) -ℤ GRID *ℤ pos (2 * (lu * ru)) ≡ (middle y r s).y
+    up = ap (λ (n : ℤ). n -ℤ GRID *ℤ pos (2 * (lu * ru))) (product h (lu * ru) ∙ ap (λ (n : ℤ). n *ℤ pos (lu * ru)) l ∙ ap (λ (n : ℤ). (y +ℤ pos WIDTH) *ℤ n) unders)
+        ∙ ap (λ (n : ℤ). (y +ℤ pos WIDTH) *ℤ (under r *ℤ under s) -ℤ GRID *ℤ n) parts
+        ∙ ring (y ∷ (under r *ℤ under s) ∷ []) ((var 0 ⊕ num (pos WIDTH)) ⊗ var 1 ⊖ num GRID ⊗ (num (pos 2) ⊗ var 1)) (var 0 ⊗ var 1) refl

@@ -11,7 +11,7 @@ use Rattle.std.proofs.lemmas.Map.Views.{All-insert_key}
 use Rattle.geom_check.specs.declared.kinds.Segment.{Segment}
 use Rattle.geom_check.specs.Boundary.{IsSegmentOf}
 use Rattle.geom_check.specs.Domains.{with_domain, domain_numbers, sides_of, IsRising, IsDomain}
-use Rattle.geom_check.specs.declared.boundaries.TheConstants.{MOST_DOMAINS}
+use Rattle.geom_check.specs.declared.limits.TheConstants.{MOST_DOMAINS}
 
 compares : (a b : ℕ) → MatchOrdering (nat_cmp a b) (a < b) (a ≡ b) (b < a)
 compares a b = grind (arith, nat_tests)

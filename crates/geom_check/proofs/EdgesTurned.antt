@@ -1,6 +1,6 @@
 -- The risers of a geometry: on the grid, between its levels, without common inner points, and each an edge turned upwards.
-use Rattle.std.proofs.Common.{◌≡◌, ◌≢◌, ℕ, zero, suc, ◌+◌, ◌-◌, ◌<◌, ◌≤◌, Bool, true, false, List, [], ◌∷◌, length, slice_index_or, All, AllPairs, Any, Contains, sym, ◌∙◌, ap, subst, refl, arith, ◌⊎◌, inl, inr}
-use lib.IntN.{ℤ, pos, negsuc, ◌+ℤ◌}
+use Rattle.std.proofs.Common.{◌≡◌, ◌≢◌, ℕ, zero, suc, ◌-◌, ◌<◌, ◌≤◌, Bool, true, false, List, [], ◌∷◌, length, slice_index_or, All, AllPairs, Any, Contains, sym, ◌∙◌, ap, subst, refl, arith, ◌⊎◌, inl, inr}
+use lib.IntN.{ℤ, pos, ◌+ℤ◌, neg_ℤ}
 use lib.Signed.{◌<ℤ◌, ◌≤ℤ◌, lt_z}
 use Rattle.std.proofs.lemmas.Int.{ints}
 use Rattle.std.proofs.lemmas.Bool.{cases_order}
@@ -13,8 +13,9 @@ use Rattle.grid_geom.specs.Bounds.{IsOnGrid, IsWithin}
 use Rattle.grid_geom.proofs.Signs.{ordered}
 use Rattle.geom_check.specs.declared.kinds.Segment.{Segment}
 use Rattle.geom_check.specs.declared.risers.Riser.{Riser}
-use Rattle.geom_check.specs.Boundary.{point_at, edge_of, edges_of, IsEdgeOnGrid, IsSegmentOf}
-use Rattle.geom_check.specs.Accepted.{HasPlaces, HasTwoEnds, AreApart, DoEdgesTangle}
+use Rattle.geom_check.specs.Boundary.{point_at, edge_of, edges_of, IsSegmentOf}
+use Rattle.wind_law.specs.Grid.{IsEdgeOnGrid}
+use Rattle.geom_check.specs.Accepted.{ArePlacesDifferent, HasTwoEnds, AreApart, DoEdgesTangle}
 use Rattle.geom_check.specs.Risers.{with_riser, upwards, downwards, risers_of, IsRiserOf, AreRisersOf}
 use Rattle.geom_check.specs.Risers.IsRiserOf.{rising, falling}
 use Rattle.geom_check.specs.RiserOrder.{IsRiserOnGrid, IsFree, HasLevel, HasLevels, IsLevelsOf}
@@ -22,6 +23,8 @@ use Rattle.geom_check.proofs.FreeRisers.{risers_all, risers_free, free_segments}
 use Rattle.geom_check.proofs.LevelLists.{has_level}
 use Rattle.geom_check.proofs.RiserWinding.{lt_true}
 use Rattle.geom_check.proofs.Together.{HasSidesTo}
+use Rattle.geom_check.specs.declared.limits.TheConstants.{MOST_DOMAINS}
+use Rattle.geom_check.proofs.KeyOrder.{number}
 
 -- ---- on the grid
 pub row_on_grid : (points : List Point) (row : ℕ) → All IsOnGrid points → 1 ≤ row → row ≤ length points → IsOnGrid (point_at points row)
@@ -37,24 +40,23 @@ risers_on_grid points ss all joined = risers_all IsRiserOnGrid points ss (λ i d
     both : (s : Segment) → IsSegmentOf (length points) s → IsRiserOnGrid (upwards points s) × IsRiserOnGrid (downwards points s)
     both s j = (record { a = row_on_grid points s.p all j.p_least j.p_greatest; b = row_on_grid points s.q all j.q_least j.q_greatest }, record { a = row_on_grid points s.q all j.q_least j.q_greatest; b = row_on_grid points s.p all j.p_least j.p_greatest })
 
-pub risers_have_sides : (points : List Point) (ss : List Segment) → All (IsSegmentOf (length points)) ss → All (HasSidesTo 64) (risers_of points ss)
-risers_have_sides points ss joined = risers_all (HasSidesTo 64) points ss (λ i d h. (record { west = (joined i d h).left; east = (joined i d h).right }, record { west = (joined i d h).right; east = (joined i d h).left }))
+pub risers_have_sides : (points : List Point) (ss : List Segment) → All (IsSegmentOf (length points)) ss → All (HasSidesTo MOST_DOMAINS) (risers_of points ss)
+risers_have_sides points ss joined = risers_all (HasSidesTo MOST_DOMAINS) points ss (λ i d h. (record { west = (joined i d h).left; east = (joined i d h).right }, record { west = (joined i d h).right; east = (joined i d h).left }))
 
 -- ---- between the levels
 -- how far a height is above the bottom of the grid
-above_bottom : (y : ℤ) → IsWithin GRID y → (n : ℕ) × (pos n ≡ y +ℤ pos 1048576)
-above_bottom (pos m) w = (m + 1048576, omega (arith, ints))
-above_bottom (negsuc m) w = (1048575 - m, shifted m w.least)
+above_bottom : (y : ℤ) → IsWithin GRID y → (n : ℕ) × (pos n ≡ y +ℤ GRID)
+above_bottom y w = number (y +ℤ GRID) (above y w.least)
   where
-    shifted : (m : ℕ) → negsuc 1048575 ≤ℤ negsuc m → pos (1048575 - m) ≡ negsuc m +ℤ pos 1048576
-    shifted m h = omega (arith, ints)
+    above : (y : ℤ) → neg_ℤ GRID ≤ℤ y → pos 0 ≤ℤ (y +ℤ GRID)
+    above y h = omega (arith, ints)
 
 pub risers_have_levels : (points : List Point) (ss : List Segment) (edges : List Edge) (levels : List ℕ) → All IsOnGrid points → All (IsSegmentOf (length points)) ss → edges ≡ edges_of points ss → IsLevelsOf edges (length edges) levels →
     All (HasLevels levels) (risers_of points ss)
 risers_have_levels points ss edges levels all joined is of_edges = risers_all (HasLevels levels) points ss (λ i d h. (record { a = at_p i d h; b = at_q i d h }, record { a = at_q i d h; b = at_p i d h }))
   where
-    level_by : (y z : ℤ) → IsWithin GRID y → z ≡ y → ((n : ℕ) → pos n ≡ z +ℤ pos 1048576 → Contains levels n) → HasLevel levels y
-    level_by y z w e f = has_level levels y (above_bottom y w).0 (above_bottom y w).1 (f (above_bottom y w).0 ((above_bottom y w).1 ∙ ap (λ (x : ℤ). x +ℤ pos 1048576) (sym e)))
+    level_by : (y z : ℤ) → IsWithin GRID y → z ≡ y → ((n : ℕ) → pos n ≡ z +ℤ GRID → Contains levels n) → HasLevel levels y
+    level_by y z w e f = has_level levels y (above_bottom y w).0 (above_bottom y w).1 (f (above_bottom y w).0 ((above_bottom y w).1 ∙ ap (λ (x : ℤ). x +ℤ GRID) (sym e)))
 
     l : IsLevelsOf (edges_of points ss) (length (edges_of points ss)) levels
     l = subst (λ (es : List Edge). IsLevelsOf es (length es) levels) is of_edges
@@ -71,7 +73,7 @@ risers_have_levels points ss edges levels all joined is of_edges = risers_all (H
         (ap (λ (e : Edge). e.b.y) (get_or-map (edge_of points) ss i d (edge_of points d) h)) (λ n e. l.ends i (edge_of points d) n (in_edges i h) e)
 
 -- ---- without common inner points
-two_places : (points : List Point) (m n : ℕ) → HasPlaces points → 1 ≤ m → m ≤ length points → 1 ≤ n → n ≤ length points → m ≢ n → ¬ (point_at points m ≡ point_at points n)
+two_places : (points : List Point) (m n : ℕ) → ArePlacesDifferent points → 1 ≤ m → m ≤ length points → 1 ≤ n → n ≤ length points → m ≢ n → ¬ (point_at points m ≡ point_at points n)
 two_places points m n places a b c d apart e = elim (cases_order m n) [
   | inl f ↦ apart f
   | inr r ↦ elim r [ inl l ↦ clash m n a l d e | inr l ↦ clash n m c l b (sym e) ]
@@ -84,7 +86,7 @@ two_places points m n places a b c d apart e = elim (cases_order m n) [
       together = λ x. get_or_default points (m - 1) x (record { x = pos 0; y = pos 0 }) (omega arith) ∙ e ∙ sym (get_or_default points (n - 1) x (record { x = pos 0; y = pos 0 }) (omega arith));
     })
 
-pub risers_apart : (points : List Point) (ss : List Segment) (edges : List Edge) → HasPlaces points → All (IsSegmentOf (length points)) ss → All HasTwoEnds ss → edges ≡ edges_of points ss → AreApart edges → AllPairs IsFree (risers_of points ss)
+pub risers_apart : (points : List Point) (ss : List Segment) (edges : List Edge) → ArePlacesDifferent points → All (IsSegmentOf (length points)) ss → All HasTwoEnds ss → edges ≡ edges_of points ss → AreApart edges → AllPairs IsFree (risers_of points ss)
 risers_apart points ss edges places joined ends is all_apart = risers_free points ss (λ i j d h k. free_segments points (slice_index_or ss i d) (slice_index_or ss j d) (two_ends i d (omega arith)) (two_ends j d k) (λ t. apart i j (record {
   ordered = h;
   in_list = let e : length (edges_of points ss) ≡ length ss = length-map ss (edge_of points) in omega arith;

@@ -13,7 +13,7 @@ use Rattle.grid_geom.specs.Plane.{orient_rat}
 use Rattle.geom_check.specs.declared.risers.Riser.{Riser}
 use Rattle.geom_check.specs.declared.risers.Passing.{Passing}
 use Rattle.geom_check.specs.declared.strips.Strip.{Strip}
-use Rattle.geom_check.specs.Accepted.{IsSide}
+use Rattle.geom_check.specs.Accepted.{IsZeroOrOne}
 use Rattle.geom_check.specs.Strips.{IsLeftOf}
 use Rattle.geom_check.specs.Risers.{is_left, is_beside, winding_of, AreRisersOf}
 use Rattle.geom_check.specs.RiserOrder.{IsPassing, IsKey, IsClear, IsInStrip, IsOrder, IsFaultyAfter, IsLowestFault, IsLevelsOf, IsRiserOnGrid, IsOffRisers, HasLevels, west_of, east_of, rises, far, height_of, is_border}
@@ -135,8 +135,8 @@ split_at low high chosen rs items q b s off = strip_winding low high q chosen (b
 
 -- q is in the middle of the gap to the right of the fault
 pub fault_in_gap : (low high : ℤ) (chosen : ℕ → Bool) (rs : List Riser) (items : List Passing) (j : ℕ) (left : Passing) (at : RatPoint) → IsFaultAt low high chosen rs items j left → (g : IsMidway low high rs at) → g.left_key ≡ left.key → IsInStrip low high at → IsOffRisers at rs →
-    ¬ IsSide (winding_of chosen at rs)
-fault_in_gap low high chosen rs items j left at f g e s off side = f.faulty.fault (subst (λ (n : ℕ). IsSide (rises chosen (take n items))) (between split.at j after before) (subst (λ (z : ℤ). IsSide z) (sym (winding_borders chosen at rs) ∙ split.winding) side))
+    ¬ IsZeroOrOne (winding_of chosen at rs)
+fault_in_gap low high chosen rs items j left at f g e s off side = f.faulty.fault (subst (λ (n : ℕ). IsZeroOrOne (rises chosen (take n items))) (between split.at j after before) (subst (λ (z : ℤ). IsZeroOrOne z) (sym (winding_borders chosen at rs) ∙ split.winding) side))
   where
     between : (m j : ℕ) → j < m → m ≤ j + 1 → m ≡ j + 1
     between m j h k = omega arith
@@ -164,10 +164,10 @@ fault_in_gap low high chosen rs items j left at f g e s off side = f.faulty.faul
 
 -- the middles of gaps of this strip that are further left have no fault
 pub side_before : (low high : ℤ) (chosen : ℕ → Bool) (rs : List Riser) (items : List Passing) (j : ℕ) (left : Passing) (at m : RatPoint) → IsFaultAt low high chosen rs items j left → (g : IsMidway low high rs at) → g.left ≡ left.riser → g.left_key ≡ left.key →
-    (w : IsMidway low high rs m) → IsInStrip low high m → IsOffRisers m rs → IsLeftOf m at → IsSide (winding_of chosen m rs)
+    (w : IsMidway low high rs m) → IsInStrip low high m → IsOffRisers m rs → IsLeftOf m at → IsZeroOrOne (winding_of chosen m rs)
 side_before low high chosen rs items j left at m f g r e w s off l = elim (cases_lt w.left_key g.left_key) [
   | inr n ↦ absurd (not_left low high rs at m g w f.balance.ordered n (g.none w.right w.right_key w.right_among w.right_passing w.right_key_is (beyond g.left_key w.left_key w.right_key n w.ordered)) l)
-  | inl n ↦ subst (λ (z : ℤ). IsSide z) (sym split.winding ∙ winding_borders chosen m rs)
+  | inl n ↦ subst (λ (z : ℤ). IsZeroOrOne z) (sym split.winding ∙ winding_borders chosen m rs)
       (f.faulty.first split.at (split.not_after j left f.faulty.in_list (subst (λ (p : Riser). is_left m p ≡ true) (r ∙ ap (λ (p : Passing). p.riser) (sym (f.left_is left))) (left_of _ (on_right low high rs m w g.left g.left_key f.balance.ordered g.left_among g.left_passing g.left_key_is n)))))
 ]
   where

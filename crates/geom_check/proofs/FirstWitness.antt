@@ -13,7 +13,7 @@ use Rattle.grid_geom.proofs.Signs.{pos_mul}
 use Rattle.geom_check.specs.declared.risers.Riser.{Riser}
 use Rattle.geom_check.specs.declared.risers.Passing.{Passing}
 use Rattle.geom_check.specs.declared.strips.Strip.{Strip}
-use Rattle.geom_check.specs.Accepted.{IsSide}
+use Rattle.geom_check.specs.Accepted.{IsZeroOrOne}
 use Rattle.geom_check.specs.Strips.{IsStrip, IsMiddleHeight, IsGapMiddle, IsBefore, IsLeftOf, IsWitness}
 use Rattle.geom_check.specs.Risers.{is_beside, winding_of}
 use Rattle.geom_check.specs.RiserOrder.{IsInStrip, IsLowestFault, IsOffRisers, height_of, is_border}
@@ -24,6 +24,7 @@ use Rattle.geom_check.proofs.Midway.{IsMidway, in_strip, off_midway, midway_afte
 use Rattle.geom_check.proofs.GapStrips.{IsPlaced, placed_of, strip_of}
 use Rattle.geom_check.proofs.RiserMiddles.{grid_at, midway_of, midway_height, gap_of}
 use Rattle.geom_check.proofs.FirstFaults.{borders_of, AreGiven, ordered_at, clear_at, placed_at, IsFaultAt, fault_at, left_passing, left_key, left_among, fault_in_gap, side_before}
+use Rattle.grid_geom.specs.declared.TheConstants.{GRID}
 
 -- ---- heights of two places
 heights : (m a y z k l : ℤ) → pos 2 *ℤ m ≡ y *ℤ k → pos 2 *ℤ a ≡ z *ℤ l → pos 2 *ℤ (m *ℤ l -ℤ a *ℤ k) ≡ (y -ℤ z) *ℤ (k *ℤ l)
@@ -67,11 +68,11 @@ moved low high l h rs m e f w = subst (λ (z : ℤ). IsMidway z high rs m) e (su
 
 -- ---- the first middle of a gap with a fault
 pub side_of_earlier : (edges : List Edge) (levels : List ℕ) (chosen : ℕ → Bool) (rs : List Riser) (strip : Strip) (left : Passing) (at m : RatPoint) → AreGiven edges levels chosen rs → IsLowestFault levels chosen (borders_of chosen rs) strip left →
-    (g : IsMidway strip.low strip.high rs at) → g.left ≡ left.riser → g.left_key ≡ left.key → IsGapMiddle edges m → IsBefore m at → IsSide (winding_of chosen m rs)
+    (g : IsMidway strip.low strip.high rs at) → g.left ≡ left.riser → g.left_key ≡ left.key → IsGapMiddle edges m → IsBefore m at → IsZeroOrOne (winding_of chosen m rs)
 side_of_earlier edges levels chosen rs strip left at m given f g r e gap before = elim (cases_order placed.place f.place) [
   | inl same ↦ in_strip_of (sym placed.low_is ∙ ap (λ (n : ℕ). height_of levels (n - 1)) same ∙ sym f.low_is) (sym placed.high_is ∙ ap (λ (n : ℕ). height_of levels n) same ∙ sym f.high_is)
   | inr apart ↦ elim apart [
-    | inl lower ↦ subst (λ (z : ℤ). IsSide z) (winding_borders chosen m rs)
+    | inl lower ↦ subst (λ (z : ℤ). IsZeroOrOne z) (winding_borders chosen m rs)
         (f.below placed.place placed.positive lower m (subst (λ (z : ℤ). IsInStrip z (height_of levels placed.place) m) (sym placed.low_is) (subst (λ (z : ℤ). IsInStrip gap.low z m) (sym placed.high_is) inside))
         (All-filter (is_border chosen) (λ r. is_beside m r ≡ true → orient_rat r.a r.b m ≢ pos 0) rs off))
     | inr higher ↦ absurd (not_higher strip.low strip.high gap.low gap.high m at gap.height (midway_height strip.low strip.high rs at ordered g)
@@ -80,7 +81,7 @@ side_of_earlier edges levels chosen rs strip left at m given f g r e gap before 
   ]
 ]
   where
-    at_most : (m n : ℕ) → m ≤ n → (pos m -ℤ pos 1048576) ≤ℤ (pos n -ℤ pos 1048576)
+    at_most : (m n : ℕ) → m ≤ n → (pos m -ℤ GRID) ≤ℤ (pos n -ℤ GRID)
     at_most m n h = omega (arith, ints)
 
     sums : (a b c d : ℤ) → a <ℤ b → c <ℤ d → b ≤ℤ c → (a +ℤ b) <ℤ (c +ℤ d)
@@ -92,7 +93,7 @@ side_of_earlier edges levels chosen rs strip left at m given f g r e gap before 
     midway : IsMidway gap.low gap.high rs m
     midway = midway_of gap.low gap.high edges rs gap.left gap.right m gap.strip.ordered given.of_edges given.grid gap.gap gap.height gap.between
 
-    above_bottom : (low a : ℤ) → a ≤ℤ low → (pos 0 -ℤ pos 1048576) ≤ℤ a → pos 0 ≤ℤ (low +ℤ pos 1048576)
+    above_bottom : (low a : ℤ) → a ≤ℤ low → (pos 0 -ℤ GRID) ≤ℤ a → pos 0 ≤ℤ (low +ℤ GRID)
     above_bottom low a h j = omega (arith, ints)
 
     placed : IsPlaced levels gap.low gap.high
@@ -104,7 +105,7 @@ side_of_earlier edges levels chosen rs strip left at m given f g r e gap before 
     off : IsOffRisers m rs
     off = off_midway gap.low gap.high rs m midway gap.strip.ordered inside (clear_at levels gap.low gap.high rs placed given.increasing given.levels_of) given.grid
 
-    in_strip_of : gap.low ≡ strip.low → gap.high ≡ strip.high → IsSide (winding_of chosen m rs)
+    in_strip_of : gap.low ≡ strip.low → gap.high ≡ strip.high → IsZeroOrOne (winding_of chosen m rs)
     in_strip_of e_low e_high =
         let w : IsMidway strip.low strip.high rs m = moved strip.low strip.high gap.low gap.high rs m e_low e_high midway in
         let h : IsMiddleHeight strip.low strip.high m = midway_height strip.low strip.high rs m ordered w in
@@ -112,7 +113,7 @@ side_of_earlier edges levels chosen rs strip left at m given f g r e gap before 
         (left_of_before strip.low strip.high m at h (midway_height strip.low strip.high rs at ordered g) before)
 
 witness_by : (edges : List Edge) (levels : List ℕ) (chosen : ℕ → Bool) (rs : List Riser) (strip : Strip) (left : Passing) (at : RatPoint) → AreGiven edges levels chosen rs → IsLowestFault levels chosen (borders_of chosen rs) strip left → IsGapAfter strip.low strip.high rs left at →
-    (g : IsMidway strip.low strip.high rs at) → g.left ≡ left.riser → g.left_key ≡ left.key → IsWitness (λ q. ¬ IsSide (winding_of chosen q rs)) edges at
+    (g : IsMidway strip.low strip.high rs at) → g.left ≡ left.riser → g.left_key ≡ left.key → IsWitness (λ q. ¬ IsZeroOrOne (winding_of chosen q rs)) edges at
 witness_by edges levels chosen rs strip left at given f gap g r e = record {
   middle = gap_of strip.low strip.high edges rs at ordered strip_is given.of_edges given.grid g;
   fault = fault_in_gap strip.low strip.high chosen rs f.fault.items f.fault.place left at (fault_at edges levels chosen rs strip left given f) g e inside
@@ -131,7 +132,7 @@ witness_by edges levels chosen rs strip left at given f gap g r e = record {
     strip_is = subst (λ (z : ℤ). IsStrip edges z strip.high) (sym f.low_is) (subst (λ (z : ℤ). IsStrip edges (height_of levels (f.place - 1)) z) (sym f.high_is) (strip_of edges levels f.place given.increasing given.heights f.positive f.in_list))
 
 pub witness_of : (edges : List Edge) (levels : List ℕ) (chosen : ℕ → Bool) (rs : List Riser) (strip : Strip) (left : Passing) (at : RatPoint) → AreGiven edges levels chosen rs → IsLowestFault levels chosen (borders_of chosen rs) strip left → IsGapAfter strip.low strip.high rs left at →
-    IsWitness (λ q. ¬ IsSide (winding_of chosen q rs)) edges at
+    IsWitness (λ q. ¬ IsZeroOrOne (winding_of chosen q rs)) edges at
 witness_of edges levels chosen rs strip left at given f gap =
     let found : IsFaultAt strip.low strip.high chosen rs f.fault.items f.fault.place left = fault_at edges levels chosen rs strip left given f in
     witness_by edges levels chosen rs strip left at given f gap

@@ -12,15 +12,16 @@ use Rattle.geom_check.specs.RiserOrder.{HasLevel, IsLevelsOf, height_of}
 use Rattle.geom_check.proofs.Levels.{clear_end, rises_to, height_is, strip_ordered}
 use Rattle.geom_check.proofs.LevelLists.{has_level}
 use Rattle.geom_check.proofs.KeyOrder.{number}
+use Rattle.grid_geom.specs.declared.TheConstants.{GRID}
 
 -- a height of an edge that isn't below the grid is a level
-level_of : (edges : List Edge) (levels : List ℕ) (h : ℤ) → IsLevelsOf edges (length edges) levels → IsHeight edges h → pos 0 ≤ℤ (h +ℤ pos 1048576) → HasLevel levels h
-level_of edges levels h l t n = by_number (number (h +ℤ pos 1048576) n)
+level_of : (edges : List Edge) (levels : List ℕ) (h : ℤ) → IsLevelsOf edges (length edges) levels → IsHeight edges h → pos 0 ≤ℤ (h +ℤ GRID) → HasLevel levels h
+level_of edges levels h l t n = by_number (number (h +ℤ GRID) n)
   where
-    by_number : ((m : ℕ) × (pos m ≡ h +ℤ pos 1048576)) → HasLevel levels h
+    by_number : ((m : ℕ) × (pos m ≡ h +ℤ GRID)) → HasLevel levels h
     by_number m = has_level levels h m.0 m.1 (elim t.4 [
-      | inl e ↦ l.starts t.0 t.1 m.0 t.2 (m.1 ∙ ap (λ (z : ℤ). z +ℤ pos 1048576) (sym e ∙ ap (λ (x : Edge). x.a.y) (sym t.3)))
-      | inr e ↦ l.ends t.0 t.1 m.0 t.2 (m.1 ∙ ap (λ (z : ℤ). z +ℤ pos 1048576) (sym e ∙ ap (λ (x : Edge). x.b.y) (sym t.3)))
+      | inl e ↦ l.starts t.0 t.1 m.0 t.2 (m.1 ∙ ap (λ (z : ℤ). z +ℤ GRID) (sym e ∙ ap (λ (x : Edge). x.a.y) (sym t.3)))
+      | inr e ↦ l.ends t.0 t.1 m.0 t.2 (m.1 ∙ ap (λ (z : ℤ). z +ℤ GRID) (sym e ∙ ap (λ (x : Edge). x.b.y) (sym t.3)))
     ])
 
 height_at : (edges : List Edge) (levels : List ℕ) (i : ℕ) → IsLevelsOf edges (length edges) levels → i < length levels → IsHeight edges (height_of levels i)
@@ -38,7 +39,7 @@ strip_of edges levels i up l j k = record {
   ];
 }
   where
-    inside : (n : ℕ) (h : ℤ) → (pos n -ℤ pos 1048576) <ℤ h → pos 0 ≤ℤ (h +ℤ pos 1048576)
+    inside : (n : ℕ) (h : ℤ) → (pos n -ℤ GRID) <ℤ h → pos 0 ≤ℤ (h +ℤ GRID)
     inside n h b = omega (arith, ints)
 
     clash : (m n : ℤ) → m <ℤ n → n ≤ℤ m → ⊥
@@ -52,16 +53,16 @@ pub record IsPlaced (levels : List ℕ) (low high : ℤ) : Type 0 where
   pub low_is : height_of levels (place - 1) ≡ low
   pub high_is : height_of levels place ≡ high
 
-pub placed_of : (edges : List Edge) (levels : List ℕ) (low high : ℤ) → IsStrictlyIncreasing levels → IsLevelsOf edges (length edges) levels → IsStrip edges low high → pos 0 ≤ℤ (low +ℤ pos 1048576) → IsPlaced levels low high
+pub placed_of : (edges : List Edge) (levels : List ℕ) (low high : ℤ) → IsStrictlyIncreasing levels → IsLevelsOf edges (length edges) levels → IsStrip edges low high → pos 0 ≤ℤ (low +ℤ GRID) → IsPlaced levels low high
 placed_of edges levels low high up l strip n = by_levels (level_of edges levels low l strip.low_is n) (level_of edges levels high l strip.high_is (upper low high n strip.ordered))
   where
-    upper : (m n : ℤ) → pos 0 ≤ℤ (m +ℤ pos 1048576) → m <ℤ n → pos 0 ≤ℤ (n +ℤ pos 1048576)
+    upper : (m n : ℤ) → pos 0 ≤ℤ (m +ℤ GRID) → m <ℤ n → pos 0 ≤ℤ (n +ℤ GRID)
     upper m n h j = omega (arith, ints)
 
     clash : (m n : ℤ) → m <ℤ n → n ≤ℤ m → ⊥
     clash m n h j = omega (arith, ints)
 
-    at_most : (m n : ℕ) → m ≤ n → (pos m -ℤ pos 1048576) ≤ℤ (pos n -ℤ pos 1048576)
+    at_most : (m n : ℕ) → m ≤ n → (pos m -ℤ GRID) ≤ℤ (pos n -ℤ GRID)
     at_most m n h = omega (arith, ints)
 
     by_levels : HasLevel levels low → HasLevel levels high → IsPlaced levels low high

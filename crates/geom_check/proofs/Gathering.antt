@@ -13,11 +13,12 @@ use Rattle.geom_check.specs.declared.risers.Passing.{Passing}
 use Rattle.geom_check.specs.Risers.{passes}
 use Rattle.geom_check.specs.RiserOrder.{under, IsFree, IsPassing, IsKey, IsOrder, IsRiserOnGrid}
 use Rattle.geom_check.proofs.Reordered.{AllPairs-reordered}
+use Rattle.geom_check.specs.declared.limits.TheConstants.{MOST_UNDER}
 
 pub under_is : (m n : ℕ) (y : ℤ) (r : Riser) → pos m ≡ pos 2 *ℤ r.b.y -ℤ y → pos n ≡ y -ℤ pos 2 *ℤ r.a.y → pos (m + n) ≡ under r
 under_is m n y r e f = omega (arith, ints)
 
-pub under_most : (m n : ℕ) (y : ℤ) (r : Riser) → IsRiserOnGrid r → pos m ≡ pos 2 *ℤ r.b.y -ℤ y → pos n ≡ y -ℤ pos 2 *ℤ r.a.y → m + n ≤ 4194304
+pub under_most : (m n : ℕ) (y : ℤ) (r : Riser) → IsRiserOnGrid r → pos m ≡ pos 2 *ℤ r.b.y -ℤ y → pos n ≡ y -ℤ pos 2 *ℤ r.a.y → m + n ≤ MOST_UNDER
 under_most m n y r g e f = omega (arith, ints, g.a.y_within.least, g.b.y_within.greatest)
 
 all_pushed : {X : Type 0} (P : X → Type 0) (xs : List X) (x : X) → All P xs → P x → All P (xs ++ x ∷ [])

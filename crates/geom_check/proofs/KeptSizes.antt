@@ -1,7 +1,7 @@
 -- What a geometry keeps of sizes, boundary numbers and domains holds of what was moved to the grid.
 use Rattle.std.proofs.Common.{◌≡◌, ℕ, zero, suc, ◌+◌, ◌≤◌, ◌==◌, min, max, Bool, true, false, if◌then◌else◌, List, [], ◌∷◌, length, map, All, Option, Some, None, IfSome, unwrap_or, refl, ap, arith}
 use lib.IntN.{ℤ, pos, negsuc}
-use Rattle.std.proofs.lemmas.List.Elements.{All-map, All-nil, All-cons, All-head, All-tail}
+use Rattle.std.proofs.lemmas.List.Elements.{All-nil, All-cons, All-head, All-tail}
 use Rattle.word_scan.specs.declared.decimals.Dec.{Dec}
 use Rattle.grid_geom.specs.declared.Point.{Point}
 use Rattle.grid_geom.specs.declared.TheConstants.{LONGEST}
@@ -14,8 +14,9 @@ use Rattle.geom_check.specs.declared.kinds.Domain.{Domain}
 use Rattle.geom_check.specs.Shift.{length_at, size_of_digits, size_at, FitsRow}
 use Rattle.geom_check.specs.Placed.{IsReadableSegment, place_of, segment_of, segments_from}
 use Rattle.geom_check.specs.Boundary.{IsBoundaryNumber}
-use Rattle.geom_check.specs.Geometry.{IsLength, IsLengthIfAny, IsSource, with_source, sources_of, size_from, domain_size, domain_at}
+use Rattle.geom_check.specs.Geometry.{IsLength, IsLengthIfAny, IsSource, with_source, sources_of, size_from, domain_at}
 use Rattle.geom_check.proofs.PlacedGrid.{place_on_grid}
+use Rattle.geom_check.specs.declared.limits.TheConstants.{MOST_ROWS}
 
 -- ---- sizes
 clamped : (n : ℕ) → IsLength (max 1 (min LONGEST n))
@@ -56,7 +57,7 @@ given_or None number h j = j
 given_or (Some n) number h j = h
 
 -- as many rows as there may be have numbers below the greatest
-pub boundary_numbers : (shift : ℤ) (points : List PointRow) (number : ℕ) (rows : List SegmentRow) → 1 ≤ number → number + length rows ≤ 4097 → All (IsReadableSegment points) rows → All (λ s. IsBoundaryNumber s.bc) (segments_from shift points number rows)
+pub boundary_numbers : (shift : ℤ) (points : List PointRow) (number : ℕ) (rows : List SegmentRow) → 1 ≤ number → number + length rows ≤ MOST_ROWS + 1 → All (IsReadableSegment points) rows → All (λ s. IsBoundaryNumber s.bc) (segments_from shift points number rows)
 boundary_numbers shift points number [] h j all = All-nil (λ s. IsBoundaryNumber s.bc)
 boundary_numbers shift points number (row ∷ rows) h j all = All-cons (λ s. IsBoundaryNumber s.bc) (segment_of shift points number row) (segments_from shift points (number + 1) rows)
     (given_or row.bc number (All-head (IsReadableSegment points) row rows all).bc (omega arith, omega arith)) (boundary_numbers shift points (number + 1) rows (omega arith) (omega arith) (All-tail (IsReadableSegment points) row rows all))

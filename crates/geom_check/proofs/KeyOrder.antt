@@ -12,13 +12,15 @@ use Rattle.grid_geom.proofs.Signs.{nn_mul, either}
 use Rattle.geom_check.specs.declared.risers.Riser.{Riser}
 use Rattle.geom_check.specs.RiserOrder.{over, under, IsWest, IsPassing, IsKey, IsRiserOnGrid}
 use Rattle.geom_check.proofs.RiserOrder.{keys_ordered}
+use Rattle.geom_check.specs.declared.limits.TheConstants.{MOST_UNDER, PARTS}
+use Rattle.grid_geom.specs.declared.TheConstants.{GRID}
 
-place_order : (m n p q k l : ℕ) → 0 < n → k ≡ m * 70368744177664 / n → l ≡ p * 70368744177664 / q → 0 < q → k < l → p * n ≤ m * q → ⊥
+place_order : (m n p q k l : ℕ) → 0 < n → k ≡ m * PARTS / n → l ≡ p * PARTS / q → 0 < q → k < l → p * n ≤ m * q → ⊥
 place_order m n p q k l hn ek el hq h w =
-    let a : m * 70368744177664 < k * n + n = subst (λ (z : ℕ). m * 70368744177664 < z * n + n) (sym ek) (lt-div-mul-add {a = m * 70368744177664} {b = n} hn) in
-    let b : l * q ≤ p * 70368744177664 = subst (λ (z : ℕ). z * q ≤ p * 70368744177664) (sym el) (div-mul-le_self (p * 70368744177664) q) in
-    let c : m * 70368744177664 * q < (k * n + n) * q = mul-lt-mul_of_pos_right a hq in
-    let d : l * q * n ≤ p * 70368744177664 * n = mul-le-mul_right n b in
+    let a : m * PARTS < k * n + n = subst (λ (z : ℕ). m * PARTS < z * n + n) (sym ek) (lt-div-mul-add {a = m * PARTS} {b = n} hn) in
+    let b : l * q ≤ p * PARTS = subst (λ (z : ℕ). z * q ≤ p * PARTS) (sym el) (div-mul-le_self (p * PARTS) q) in
+    let c : m * PARTS * q < (k * n + n) * q = mul-lt-mul_of_pos_right a hq in
+    let d : l * q * n ≤ p * PARTS * n = mul-le-mul_right n b in
     let g : k + 1 ≤ l = omega (arith, h) in
     let e : (k + 1) * n * q ≤ l * n * q = mul-le-mul_right q (mul-le-mul_right n g) in
     omega (arith, c, d, e, w)
@@ -51,7 +53,7 @@ number (negsuc n) h = absurd (omega (arith, ints))
 -- a riser of the grid that passes a strip has a key
 pub has_key : (low high : ℤ) (r : Riser) → low <ℤ high → IsRiserOnGrid r → IsPassing low high r → (k : ℕ) × IsKey (low +ℤ high) r k
 has_key low high r h grid p = (
-  o.0 * 70368744177664 / u.0,
+  o.0 * PARTS / u.0,
   record {
     over_is = o.0;
     under_is = u.0;
@@ -64,8 +66,8 @@ has_key low high r h grid p = (
 )
   where
     o : (n : ℕ) × (pos n ≡ over (low +ℤ high) r)
-    o = number (over (low +ℤ high) r) (both _ _ (nn_mul (r.a.x +ℤ pos 1048576) (pos 2 *ℤ r.b.y -ℤ (low +ℤ high)) (omega (arith, ints, grid.a.x_within.least)) (omega (arith, ints, h, p.to_high)))
-        (nn_mul (r.b.x +ℤ pos 1048576) ((low +ℤ high) -ℤ pos 2 *ℤ r.a.y) (omega (arith, ints, grid.b.x_within.least)) (omega (arith, ints, h, p.from_low))))
+    o = number (over (low +ℤ high) r) (both _ _ (nn_mul (r.a.x +ℤ GRID) (pos 2 *ℤ r.b.y -ℤ (low +ℤ high)) (omega (arith, ints, grid.a.x_within.least)) (omega (arith, ints, h, p.to_high)))
+        (nn_mul (r.b.x +ℤ GRID) ((low +ℤ high) -ℤ pos 2 *ℤ r.a.y) (omega (arith, ints, grid.b.x_within.least)) (omega (arith, ints, h, p.from_low))))
       where
         both : (m n : ℤ) → pos 0 ≤ℤ m → pos 0 ≤ℤ n → pos 0 ≤ℤ (m +ℤ n)
         both m n h j = omega (arith, ints)
@@ -76,5 +78,5 @@ has_key low high r h grid p = (
     above : (n : ℕ) (z : ℤ) → pos n ≡ z → pos 0 <ℤ z → 0 < n
     above n z e h = omega (arith, ints)
 
-    most : (n : ℕ) (z : ℤ) → pos n ≡ z → z ≤ℤ pos 4194304 → n ≤ 4194304
+    most : (n : ℕ) (z : ℤ) → pos n ≡ z → z ≤ℤ pos MOST_UNDER → n ≤ MOST_UNDER
     most n z e h = omega (arith, ints)

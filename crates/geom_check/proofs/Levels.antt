@@ -11,9 +11,10 @@ use Rattle.grid_geom.specs.declared.RatPoint.{RatPoint}
 use Rattle.grid_geom.specs.Winding.{and}
 use Rattle.grid_geom.proofs.Signs.{le_mul}
 use Rattle.geom_check.specs.declared.risers.Riser.{Riser}
-use Rattle.geom_check.specs.Accepted.{IsSide}
+use Rattle.geom_check.specs.Accepted.{IsZeroOrOne}
 use Rattle.geom_check.specs.Risers.{covers, is_left, is_beside, one_if, winding_of}
 use Rattle.geom_check.specs.RiserOrder.{IsClear, IsSound, IsSoundAll, HasLevel, HasLevels, height_of}
+use Rattle.grid_geom.specs.declared.TheConstants.{GRID}
 
 -- ---- levels rise
 pub rises_to : (levels : List ℕ) (i j : ℕ) → IsStrictlyIncreasing levels → i ≤ j → j < length levels → slice_index levels i ≤ slice_index levels j
@@ -28,10 +29,10 @@ clear_end levels i y up h k l = elim (cases_lt l.index i) [
   | inr m ↦ inr (above (slice_index levels l.index) (slice_index levels i) l.level (rises_to levels i l.index up m l.in_list))
 ]
   where
-    below : (m n : ℕ) → pos m ≡ y +ℤ pos 1048576 → m ≤ n → y ≤ℤ (pos n -ℤ pos 1048576)
+    below : (m n : ℕ) → pos m ≡ y +ℤ GRID → m ≤ n → y ≤ℤ (pos n -ℤ GRID)
     below m n e h = omega (arith, ints)
 
-    above : (m n : ℕ) → pos m ≡ y +ℤ pos 1048576 → n ≤ m → (pos n -ℤ pos 1048576) ≤ℤ y
+    above : (m n : ℕ) → pos m ≡ y +ℤ GRID → n ≤ m → (pos n -ℤ GRID) ≤ℤ y
     above m n e h = omega (arith, ints)
 
 -- no riser ends inside the strip between two successive levels
@@ -41,7 +42,7 @@ clear_risers levels i rs up h k all j d m = record { a_clear = clear_end levels 
 pub strip_ordered : (levels : List ℕ) (i : ℕ) → IsStrictlyIncreasing levels → 1 ≤ i → i < length levels → height_of levels (i - 1) <ℤ height_of levels i
 strip_ordered levels i up h k = lower (slice_index levels (i - 1)) (slice_index levels i) (AllPairs-from_increasing levels up (i - 1) i 0 (omega arith) k)
   where
-    lower : (m n : ℕ) → m < n → (pos m -ℤ pos 1048576) <ℤ (pos n -ℤ pos 1048576)
+    lower : (m n : ℕ) → m < n → (pos m -ℤ GRID) <ℤ (pos n -ℤ GRID)
     lower m n h = omega (arith, ints)
 
 -- ---- where a place lies
@@ -72,7 +73,7 @@ test_false m n e = grind (arith, ints)
 pub height_is : (levels : List ℕ) (y : ℤ) (l : HasLevel levels y) → height_of levels l.index ≡ y
 height_is levels y l = same (slice_index levels l.index) l.level
   where
-    same : (n : ℕ) → pos n ≡ y +ℤ pos 1048576 → pos n -ℤ pos 1048576 ≡ y
+    same : (n : ℕ) → pos n ≡ y +ℤ GRID → pos n -ℤ GRID ≡ y
     same n e = omega (arith, ints)
 
 -- nothing covers a place below all levels, or not below the last of them
@@ -89,7 +90,7 @@ no_sum q side (r ∷ rs) none = sum_by-cons (λ r. one_if (and (covers q r) (sid
     both : (m n : ℕ) → m ≡ 0 → n ≡ 0 → m + n ≡ 0
     both m n e f = omega arith
 
-no_winding : (chosen : ℕ → Bool) (q : RatPoint) (rs : List Riser) → ((i : ℕ) (d : Riser) → i < length rs → is_beside q (slice_index_or rs i d) ≡ false) → IsSide (winding_of chosen q rs)
+no_winding : (chosen : ℕ → Bool) (q : RatPoint) (rs : List Riser) → ((i : ℕ) (d : Riser) → i < length rs → is_beside q (slice_index_or rs i d) ≡ false) → IsZeroOrOne (winding_of chosen q rs)
 no_winding chosen q rs none = inl (zero_less _ _ (no_sum q (λ r. chosen r.west) rs none) (no_sum q (λ r. chosen r.east) rs none))
   where
     zero_less : (m n : ℕ) → m ≡ 0 → n ≡ 0 → pos m -ℤ pos n ≡ pos 0
@@ -106,7 +107,7 @@ below_all m n o b h j = grind (arith, ints)
 pub sound_all : (levels : List ℕ) (chosen : ℕ → Bool) (rs : List Riser) → IsStrictlyIncreasing levels → All (HasLevels levels) rs → ((k : ℕ) → 1 ≤ k → k < length levels → IsSound (height_of levels (k - 1)) (height_of levels k) chosen rs) → IsSoundAll chosen rs
 sound_all levels chosen rs up has sound q rational off = by_place (first_false (reaches levels q) (length levels))
   where
-    scaled : (m n : ℕ) → m ≤ n → (pos m -ℤ pos 1048576) ≤ℤ (pos n -ℤ pos 1048576)
+    scaled : (m n : ℕ) → m ≤ n → (pos m -ℤ GRID) ≤ℤ (pos n -ℤ GRID)
     scaled m n h = omega (arith, ints)
 
     lowest : (j : ℕ) → j ≡ 0 → (j < length levels → reaches levels q j ≡ false) → (i : ℕ) (d : Riser) → i < length rs → is_beside q (slice_index_or rs i d) ≡ false
@@ -121,7 +122,7 @@ sound_all levels chosen rs up has sound q rational off = by_place (first_false (
         let l : HasLevel levels (slice_index_or rs i d).b.y = (has i d h).b in
         above_all ((slice_index_or rs i d).b.y *ℤ q.k) (height_of levels l.index *ℤ q.k) q.y (le_z ((slice_index_or rs i d).a.y *ℤ q.k) q.y) (f l.index (omega (arith, l.in_list))) (ap (λ (z : ℤ). z *ℤ q.k) (height_is levels (slice_index_or rs i d).b.y l))
 
-    by_place : ((j : ℕ) × (j ≤ length levels) × ((i : ℕ) → i < j → reaches levels q i ≡ true) × (j < length levels → reaches levels q j ≡ false)) → IsSide (winding_of chosen q rs)
+    by_place : ((j : ℕ) × (j ≤ length levels) × ((i : ℕ) → i < j → reaches levels q i ≡ true) × (j < length levels → reaches levels q j ≡ false)) → IsZeroOrOne (winding_of chosen q rs)
     by_place p = elim (cases_lt 0 p.0) [
       | inr h ↦ no_winding chosen q rs (lowest p.0 (omega arith) p.3)
       | inl h ↦ elim (cases_lt p.0 (length levels)) [

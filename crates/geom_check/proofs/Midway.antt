@@ -12,7 +12,8 @@ use Rattle.grid_geom.proofs.Ring.{var, num, ◌⊕◌, ◌⊖◌, ◌⊗◌, rin
 use Rattle.grid_geom.proofs.Signs.{pos_mul, pos_mul_neg, nn_np_mul, nn_mul, nn_factor}
 use Rattle.geom_check.specs.declared.risers.Riser.{Riser}
 use Rattle.geom_check.specs.declared.risers.Passing.{Passing}
-use Rattle.geom_check.specs.Strips.{IsSamePlace, IsMiddleHeight, IsLeftOf}
+use Rattle.geom_check.specs.Strips.{IsMiddleHeight, IsLeftOf}
+use Rattle.wind_law.specs.Near.{IsSamePlace}
 use Rattle.geom_check.specs.Risers.{passes, is_beside}
 use Rattle.geom_check.specs.RiserOrder.{over, under, IsPassing, IsKey, IsClear, IsInStrip, IsRiserOnGrid, IsOffRisers}
 use Rattle.geom_check.specs.Gaps.{middle, IsGapAfter}
@@ -21,6 +22,8 @@ use Rattle.geom_check.proofs.RiserPlace.{tall, side_at, middle_at, middle_k}
 use Rattle.geom_check.proofs.StripWinding.{passing_test, not_beside}
 use Rattle.geom_check.proofs.KeyOrder.{west_by_keys, not_west, has_key}
 use Rattle.geom_check.proofs.Crossings.{positive_by}
+use Rattle.geom_check.specs.declared.limits.TheConstants.{WIDTH}
+use Rattle.grid_geom.specs.declared.TheConstants.{GRID}
 
 -- m is in the middle of two risers that pass a strip, with none between them
 pub record IsMidway (low high : ℤ) (rs : List Riser) (m : RatPoint) : Type 0 where
@@ -43,7 +46,7 @@ pub record IsMidway (low high : ℤ) (rs : List Riser) (m : RatPoint) : Type 0 w
 twice_side : (y : ℤ) (l r t : Riser) → pos 2 *ℤ orient_rat t.a t.b (middle y l r) ≡ under r *ℤ (over y t *ℤ under l -ℤ over y l *ℤ under t) +ℤ under l *ℤ (over y t *ℤ under r -ℤ over y r *ℤ under t)
 twice_side y l r t = side_at y t (middle y l r) (middle_at y l r)
     ∙ ring (over y t ∷ under t ∷ over y l ∷ under l ∷ over y r ∷ under r ∷ [])
-    (num (pos 2) ⊗ (var 3 ⊗ var 5) ⊗ (var 0 ⊖ num (pos 1048576) ⊗ var 1) ⊖ var 1 ⊗ (var 2 ⊗ var 5 ⊕ var 4 ⊗ var 3 ⊖ num (pos 2097152) ⊗ (var 3 ⊗ var 5)))
+    (num (pos 2) ⊗ (var 3 ⊗ var 5) ⊗ (var 0 ⊖ num GRID ⊗ var 1) ⊖ var 1 ⊗ (var 2 ⊗ var 5 ⊕ var 4 ⊗ var 3 ⊖ num (pos WIDTH) ⊗ (var 3 ⊗ var 5)))
     (var 5 ⊗ (var 0 ⊗ var 3 ⊖ var 2 ⊗ var 1) ⊕ var 3 ⊗ (var 0 ⊗ var 5 ⊖ var 4 ⊗ var 1)) refl
 
 -- two names of a place are on one side
@@ -52,8 +55,8 @@ same_side a b m n s =
     ring (a.x ∷ a.y ∷ b.x ∷ b.y ∷ m.x ∷ m.y ∷ m.k ∷ n.k ∷ [])
     (var 7 ⊗ ((var 2 ⊖ var 0) ⊗ (var 5 ⊖ var 1 ⊗ var 6) ⊖ (var 3 ⊖ var 1) ⊗ (var 4 ⊖ var 0 ⊗ var 6)))
     ((var 2 ⊖ var 0) ⊗ (var 5 ⊗ var 7 ⊖ var 1 ⊗ (var 6 ⊗ var 7)) ⊖ (var 3 ⊖ var 1) ⊗ (var 4 ⊗ var 7 ⊖ var 0 ⊗ (var 6 ⊗ var 7))) refl
-    ∙ ap (λ (z : ℤ). (b.x -ℤ a.x) *ℤ (z -ℤ a.y *ℤ (m.k *ℤ n.k)) -ℤ (b.y -ℤ a.y) *ℤ (m.x *ℤ n.k -ℤ a.x *ℤ (m.k *ℤ n.k))) s.y
-    ∙ ap (λ (z : ℤ). (b.x -ℤ a.x) *ℤ (n.y *ℤ m.k -ℤ a.y *ℤ (m.k *ℤ n.k)) -ℤ (b.y -ℤ a.y) *ℤ (z -ℤ a.x *ℤ (m.k *ℤ n.k))) s.x
+    ∙ ap (λ (z : ℤ). (b.x -ℤ a.x) *ℤ (z -ℤ a.y *ℤ (m.k *ℤ n.k)) -ℤ (b.y -ℤ a.y) *ℤ (m.x *ℤ n.k -ℤ a.x *ℤ (m.k *ℤ n.k))) s.same_y
+    ∙ ap (λ (z : ℤ). (b.x -ℤ a.x) *ℤ (n.y *ℤ m.k -ℤ a.y *ℤ (m.k *ℤ n.k)) -ℤ (b.y -ℤ a.y) *ℤ (z -ℤ a.x *ℤ (m.k *ℤ n.k))) s.same_x
     ∙ ring (a.x ∷ a.y ∷ b.x ∷ b.y ∷ n.x ∷ n.y ∷ m.k ∷ n.k ∷ [])
     ((var 2 ⊖ var 0) ⊗ (var 5 ⊗ var 6 ⊖ var 1 ⊗ (var 6 ⊗ var 7)) ⊖ (var 3 ⊖ var 1) ⊗ (var 4 ⊗ var 6 ⊖ var 0 ⊗ (var 6 ⊗ var 7)))
     (var 6 ⊗ ((var 2 ⊖ var 0) ⊗ (var 5 ⊖ var 1 ⊗ var 7) ⊖ (var 3 ⊖ var 1) ⊗ (var 4 ⊖ var 0 ⊗ var 7))) refl
@@ -156,13 +159,13 @@ middles : (y : ℤ) (l r p q : Riser) → (middle y l r).x *ℤ (middle y p q).k
     ≡ pos 2 *ℤ ((under r *ℤ under q) *ℤ (over y l *ℤ under p -ℤ over y p *ℤ under l) +ℤ (under l *ℤ under p) *ℤ (over y r *ℤ under q -ℤ over y q *ℤ under r))
 middles y l r p q =
     ring (over y l ∷ under l ∷ over y r ∷ under r ∷ over y p ∷ under p ∷ over y q ∷ under q ∷ [])
-    ((var 0 ⊗ var 3 ⊕ var 2 ⊗ var 1 ⊖ num (pos 2097152) ⊗ (var 1 ⊗ var 3)) ⊗ (num (pos 2) ⊗ (var 5 ⊗ var 7)) ⊖ (var 4 ⊗ var 7 ⊕ var 6 ⊗ var 5 ⊖ num (pos 2097152) ⊗ (var 5 ⊗ var 7)) ⊗ (num (pos 2) ⊗ (var 1 ⊗ var 3)))
+    ((var 0 ⊗ var 3 ⊕ var 2 ⊗ var 1 ⊖ num (pos WIDTH) ⊗ (var 1 ⊗ var 3)) ⊗ (num (pos 2) ⊗ (var 5 ⊗ var 7)) ⊖ (var 4 ⊗ var 7 ⊕ var 6 ⊗ var 5 ⊖ num (pos WIDTH) ⊗ (var 5 ⊗ var 7)) ⊗ (num (pos 2) ⊗ (var 1 ⊗ var 3)))
     (num (pos 2) ⊗ ((var 3 ⊗ var 7) ⊗ (var 0 ⊗ var 5 ⊖ var 4 ⊗ var 1) ⊕ (var 1 ⊗ var 5) ⊗ (var 2 ⊗ var 7 ⊖ var 6 ⊗ var 3))) refl
 
 pub not_left : (low high : ℤ) (rs : List Riser) (at m : RatPoint) (g : IsMidway low high rs at) (w : IsMidway low high rs m) → low <ℤ high → g.left_key ≤ w.left_key → g.right_key ≤ w.right_key → IsLeftOf m at → ⊥
 not_left low high rs at m g w h j k l =
     none _ (under g.right *ℤ under w.right) _ (under g.left *ℤ under w.left) _ (middles (low +ℤ high) g.left g.right w.left w.right)
-    (positive_by (at.k *ℤ m.k) _ ((middle (low +ℤ high) g.left g.right).k *ℤ (middle (low +ℤ high) w.left w.right).k) _ (moved at.x at.k m.x m.k (middle (low +ℤ high) g.left g.right) (middle (low +ℤ high) w.left w.right) g.same.x w.same.x) (pos_mul at.k m.k g.rational.positive w.rational.positive)
+    (positive_by (at.k *ℤ m.k) _ ((middle (low +ℤ high) g.left g.right).k *ℤ (middle (low +ℤ high) w.left w.right).k) _ (moved at.x at.k m.x m.k (middle (low +ℤ high) g.left g.right) (middle (low +ℤ high) w.left w.right) g.same.same_x w.same.same_x) (pos_mul at.k m.k g.rational.positive w.rational.positive)
     (pos_mul _ _ (middle_k (low +ℤ high) g.left g.right (across low high g.left h g.left_passing) (across low high g.right h g.right_passing)) (middle_k (low +ℤ high) w.left w.right (across low high w.left h w.left_passing) (across low high w.right h w.right_passing))) (more (m.x *ℤ at.k) (at.x *ℤ m.k) l))
     (pos_mul (under g.right) (under w.right) (tall (low +ℤ high) g.right (across low high g.right h g.right_passing)) (tall (low +ℤ high) w.right (across low high w.right h w.right_passing)))
     (pos_mul (under g.left) (under w.left) (tall (low +ℤ high) g.left (across low high g.left h g.left_passing)) (tall (low +ℤ high) w.left (across low high w.left h w.left_passing)))

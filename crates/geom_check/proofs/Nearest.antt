@@ -11,6 +11,7 @@ use Rattle.geom_check.specs.declared.risers.Passing.{Passing}
 use Rattle.geom_check.specs.Risers.{passes}
 use Rattle.geom_check.specs.RiserOrder.{IsPassing, IsKey}
 use Rattle.geom_check.specs.Gaps.{HasEnd, IsGapEnd}
+use Rattle.geom_check.specs.declared.limits.TheConstants.{PARTS}
 
 -- a riser has one key
 pub key_same : (y : ℤ) (r : Riser) (k l : ℕ) → IsKey y r k → IsKey y r l → k ≡ l
@@ -19,8 +20,8 @@ key_same y r k l a b = same a.over_is a.under_is b.over_is b.under_is k l (numbe
     number : (m n : ℕ) → pos m ≡ pos n → m ≡ n
     number m n e = omega (arith, ints)
 
-    same : (m n o p k l : ℕ) → m ≡ o → n ≡ p → k ≡ m * 70368744177664 / n → l ≡ o * 70368744177664 / p → k ≡ l
-    same m n o p k l e f g h = g ∙ ap (λ (x : ℕ). x * 70368744177664 / n) e ∙ ap (λ (x : ℕ). o * 70368744177664 / x) f ∙ sym h
+    same : (m n o p k l : ℕ) → m ≡ o → n ≡ p → k ≡ m * PARTS / n → l ≡ o * PARTS / p → k ≡ l
+    same m n o p k l e f g h = g ∙ ap (λ (x : ℕ). x * PARTS / n) e ∙ ap (λ (x : ℕ). o * PARTS / x) f ∙ sym h
 
 -- a riser that the test refuses doesn't pass
 pub no_passing : (low high : ℤ) (r : Riser) → passes low high r ≡ false → IsPassing low high r → ⊥

@@ -10,7 +10,7 @@ use Rattle.geom_check.specs.declared.refusal.GeomRefusal.{GeomRefusal}
 use Rattle.geom_check.specs.declared.refusal.GeomRefusal.TheVariants.{NoDomain, TooLarge, SamePlace, SameSides, NoLength, Meet, OpenAt, Side, Overlap, Memory}
 use Rattle.geom_check.specs.Placed.{points_of, segments_of}
 use Rattle.geom_check.specs.Boundary.{edges_of}
-use Rattle.geom_check.specs.Accepted.{IsPlanar, IsAccepted, AreClosed, HasSides}
+use Rattle.geom_check.specs.Accepted.{IsPlanar, IsAccepted, AreClosed, WindsAtMostOnce}
 use Rattle.geom_check.specs.Refused.{IsFirstFailing, IsFault, IsPlacedFault, IsRefusal, IsLeastOpen, IsLeastSide}
 use Rattle.geom_check.proofs.GapMiddles.{middle_off}
 use Rattle.geom_check.proofs.SomeShift.{some_shift}
@@ -33,7 +33,7 @@ pub not_open : (points : List Point) (segments : List Segment) (point domain : �
 not_open points segments point domain f closed = f.open_at.fails some_point ((closed domain f.positive).balanced _)
 
 -- a domain with sides has a witness of a fault of its sides nowhere
-pub no_side : (points : List Point) (segments : List Segment) (domain : ℕ) (at : RatPoint) → IsLeastSide points segments domain at → ¬ (HasSides points segments domain)
+pub no_side : (points : List Point) (segments : List Segment) (domain : ℕ) (at : RatPoint) → IsLeastSide points segments domain at → ¬ (WindsAtMostOnce points segments domain)
 no_side points segments domain at f sides = f.witness.fault (sides at f.witness.middle.height.rational (middle_off (edges_of points segments) at f.witness.middle))
 
 planar_faultless : (refusal : GeomRefusal) (points : List Point) (segments : List Segment) → IsPlanar points segments → ¬ (IsFault refusal points segments)
@@ -41,11 +41,11 @@ planar_faultless NoDomain points segments h f = f
 planar_faultless (TooLarge point) points segments h f = f
 planar_faultless (SamePlace i j) points segments h f = h.places f.first f.second f.holds
 planar_faultless (SameSides segment) points segments h f = none_fails _ segments segment some_segment f.1 h.sides
-planar_faultless (NoLength segment) points segments h f = none_fails _ segments segment some_segment f.2 h.ends
-planar_faultless (Meet i j) points segments h f = h.apart f.3.first f.3.second f.3.holds
-planar_faultless (OpenAt point domain) points segments h f = not_open points segments point domain f.4 h.closed
-planar_faultless (Side domain at) points segments h f = no_side points segments domain at f.5 (h.winding domain f.5.positive)
-planar_faultless (Overlap at) points segments h f = h.separate at f.6.middle.height.rational (middle_off (edges_of points segments) at f.6.middle) f.6.fault
+planar_faultless (NoLength segment) points segments h f = none_fails _ segments segment some_segment f.1.1 h.ends
+planar_faultless (Meet i j) points segments h f = h.apart f.1.1.1.first f.1.1.1.second f.1.1.1.holds
+planar_faultless (OpenAt point domain) points segments h f = not_open points segments point domain f.1.1.1.1 h.closed
+planar_faultless (Side domain at) points segments h f = no_side points segments domain at f.1.1.1.1.1 (h.winding domain f.1.1.1.1.1.positive)
+planar_faultless (Overlap at) points segments h f = h.separate at f.1.1.1.1.1.1.middle.height.rational (middle_off (edges_of points segments) at f.1.1.1.1.1.1.middle) f.1.1.1.1.1.1.fault
 planar_faultless Memory points segments h f = f
 
 -- an accepted file has no fault on the grid

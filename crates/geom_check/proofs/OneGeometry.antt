@@ -9,7 +9,7 @@ use Rattle.geom_check.specs.declared.kinds.Source.{Source}
 use Rattle.geom_check.specs.declared.kinds.Domain.{Domain}
 use Rattle.geom_check.specs.Placed.{points_of, segments_of}
 use Rattle.geom_check.specs.Geometry.{PlanarMap, IsGeometryOf, sources_of, domains_of}
-use Rattle.geom_check.proofs.Shifts.{one_shift}
+use Rattle.geom_check.proofs.SomeShift.{one_shift}
 
 same_map : (d e : ℤ) (ps qs : List Point) (ss ts : List Segment) (fs gs : List Source) (ns ms : List Domain) → d ≡ e → ps ≡ qs → ss ≡ ts → fs ≡ gs → ns ≡ ms →
     Path PlanarMap (record { shift = d; points = ps; segments = ss; flagged = fs; domains = ns }) (record { shift = e; points = qs; segments = ts; flagged = gs; domains = ms })

@@ -1,7 +1,7 @@
 -- A file has one refusal, but for want of memory.
 use Rattle.std.proofs.Common.{◌≡◌, ℕ, List, ◌⊎◌, inl, inr, sym, ap, ◌∙◌, subst, refl, arith}
 use mathlib.Core.Path.{Path}
-use lib.IntN.{ℤ, pos, negsuc, ◌*ℤ◌}
+use lib.IntN.{ℤ, pos, ◌*ℤ◌}
 use lib.Signed.{◌<ℤ◌, ◌≤ℤ◌}
 use Rattle.std.specs.Prelude.{Any}
 use Rattle.std.proofs.lemmas.Int.{ints}
@@ -17,11 +17,13 @@ use Rattle.geom_check.specs.declared.refusal.GeomRefusal.TheVariants.{NoDomain, 
 use Rattle.geom_check.specs.Shift.{FitsRow}
 use Rattle.geom_check.specs.Placed.{points_of, segments_of}
 use Rattle.geom_check.specs.Boundary.{edges_of}
-use Rattle.geom_check.specs.Accepted.{NamesDomain, AreTogether, AreTangled, HasTwoSides, HasTwoEnds, DoOverlap}
-use Rattle.geom_check.specs.Strips.{IsSamePlace, IsBefore, IsWitness}
+use Rattle.geom_check.specs.Accepted.{NamesDomain, AreTogether, AreTangled, HasDifferentDomains, HasTwoEnds, DoOverlap}
+use Rattle.geom_check.specs.Strips.{IsBefore, IsWitness}
+use Rattle.wind_law.specs.Near.{IsSamePlace}
 use Rattle.geom_check.specs.Refused.{IsFirstFailing, IsLeastPair, IsBalancedAt, IsLeastOpen, IsLeastSide, IsFault, IsPlacedFault, IsRefusal}
 use Rattle.geom_check.proofs.SomeShift.{some_shift}
 use Rattle.geom_check.proofs.OneAnswer.{some_point, some_segment, some_row, none_fails, not_open, no_side}
+use Rattle.geom_check.specs.declared.limits.TheConstants.{COARSEST}
 
 -- ---- least places
 
@@ -47,7 +49,7 @@ same_place p q h j = elim (ordered (p.y *ℤ q.k) (q.y *ℤ p.k)) [
   | inr r ↦ elim r [
     | inl e ↦ elim (ordered (p.x *ℤ q.k) (q.x *ℤ p.k)) [
       | inl l ↦ absurd (h (inr (e, l)))
-      | inr o ↦ elim o [ inl f ↦ record { x = f; y = e } | inr l ↦ absurd (j (inr (sym e, l))) ]
+      | inr o ↦ elim o [ inl f ↦ record { same_x = f; same_y = e } | inr l ↦ absurd (j (inr (sym e, l))) ]
     ]
     | inr l ↦ absurd (j (inl l))
   ]
@@ -64,12 +66,12 @@ same_numbers x y k x' y' k' e f g = cc
 one_witness : (F : RatPoint → Type 0) (edges : List Edge) (p q : RatPoint) → IsWitness F edges p → IsWitness F edges q → p ≡ q
 one_witness F edges p q h g =
     let there : IsSamePlace p q = same_place p q (λ b. g.first p h.middle b h.fault) (λ b. h.first q g.middle b g.fault) in
-    let back : IsSamePlace q p = record { x = sym there.x; y = sym there.y } in
+    let back : IsSamePlace q p = record { same_x = sym there.same_x; same_y = sym there.same_y } in
     let positive : pos 0 <ℤ p.k = h.middle.height.rational.positive in
     let first : p.k ≤ℤ q.k = h.least q g.middle.height.rational there in
     let second : q.k ≤ℤ p.k = g.least p h.middle.height.rational back in
     let e : q.k ≡ p.k = omega (arith, ints) in
-    same_numbers p.x p.y p.k q.x q.y q.k (cancelled p.x q.x p.k q.k positive e there.x) (cancelled p.y q.y p.k q.k positive e there.y) (sym e)
+    same_numbers p.x p.y p.k q.x q.y q.k (cancelled p.x q.x p.k q.k positive e there.same_x) (cancelled p.y q.y p.k q.k positive e there.same_y) (sym e)
 
 one_open : (points : List Point) (segments : List Segment) (p c q d : ℕ) → IsLeastOpen points segments p c → IsLeastOpen points segments q d → (p ≡ q) × (c ≡ d)
 one_open points segments p c q d h g = elim (cases_order c d) [
@@ -100,8 +102,8 @@ beside_same_sides points segments n NoDomain h g = absurd g
 beside_same_sides points segments n (TooLarge point) h g = absurd g
 beside_same_sides points segments n Memory h g = absurd g
 beside_same_sides points segments n (SamePlace k l) h g = sym (beside_same_place points segments k l (SameSides n) g h)
-beside_same_sides points segments n (SameSides m) h g = ap (λ (z : ℕ). SameSides z) (one_first_failing HasTwoSides segments n m some_segment h.1 g.1)
-beside_same_sides points segments n _ h g = absurd (none_fails HasTwoSides segments n some_segment h.1 g.1)
+beside_same_sides points segments n (SameSides m) h g = ap (λ (z : ℕ). SameSides z) (one_first_failing HasDifferentDomains segments n m some_segment h.1 g.1)
+beside_same_sides points segments n _ h g = absurd (none_fails HasDifferentDomains segments n some_segment h.1 g.1.0)
 
 beside_no_length : (points : List Point) (segments : List Segment) (n : ℕ) (s : GeomRefusal) → IsFault (NoLength n) points segments → IsFault s points segments → NoLength n ≡ s
 beside_no_length points segments n NoDomain h g = absurd g
@@ -109,8 +111,8 @@ beside_no_length points segments n (TooLarge point) h g = absurd g
 beside_no_length points segments n Memory h g = absurd g
 beside_no_length points segments n (SamePlace k l) h g = sym (beside_same_place points segments k l (NoLength n) g h)
 beside_no_length points segments n (SameSides m) h g = sym (beside_same_sides points segments m (NoLength n) g h)
-beside_no_length points segments n (NoLength m) h g = ap (λ (z : ℕ). NoLength z) (one_first_failing HasTwoEnds segments n m some_segment h.2 g.2)
-beside_no_length points segments n _ h g = absurd (none_fails HasTwoEnds segments n some_segment h.2 g.2)
+beside_no_length points segments n (NoLength m) h g = ap (λ (z : ℕ). NoLength z) (one_first_failing HasTwoEnds segments n m some_segment h.1.1 g.1.1)
+beside_no_length points segments n _ h g = absurd (none_fails HasTwoEnds segments n some_segment h.1.1 g.1.1.0)
 
 beside_meet : (points : List Point) (segments : List Segment) (i j : ℕ) (s : GeomRefusal) → IsFault (Meet i j) points segments → IsFault s points segments → Meet i j ≡ s
 beside_meet points segments i j NoDomain h g = absurd g
@@ -119,8 +121,8 @@ beside_meet points segments i j Memory h g = absurd g
 beside_meet points segments i j (SamePlace k l) h g = sym (beside_same_place points segments k l (Meet i j) g h)
 beside_meet points segments i j (SameSides m) h g = sym (beside_same_sides points segments m (Meet i j) g h)
 beside_meet points segments i j (NoLength m) h g = sym (beside_no_length points segments m (Meet i j) g h)
-beside_meet points segments i j (Meet k l) h g = let e = one_least_pair (AreTangled (edges_of points segments)) i j k l h.3 g.3 in cc
-beside_meet points segments i j _ h g = absurd (g.3 h.3.first h.3.second h.3.holds)
+beside_meet points segments i j (Meet k l) h g = let e = one_least_pair (AreTangled (edges_of points segments)) i j k l h.1.1.1 g.1.1.1 in cc
+beside_meet points segments i j _ h g = absurd (g.1.1.1.0 h.1.1.1.first h.1.1.1.second h.1.1.1.holds)
 
 beside_open : (points : List Point) (segments : List Segment) (p c : ℕ) (s : GeomRefusal) → IsFault (OpenAt p c) points segments → IsFault s points segments → OpenAt p c ≡ s
 beside_open points segments p c NoDomain h g = absurd g
@@ -130,8 +132,8 @@ beside_open points segments p c (SamePlace k l) h g = sym (beside_same_place poi
 beside_open points segments p c (SameSides m) h g = sym (beside_same_sides points segments m (OpenAt p c) g h)
 beside_open points segments p c (NoLength m) h g = sym (beside_no_length points segments m (OpenAt p c) g h)
 beside_open points segments p c (Meet k l) h g = sym (beside_meet points segments k l (OpenAt p c) g h)
-beside_open points segments p c (OpenAt q d) h g = let e = one_open points segments p c q d h.4 g.4 in cc
-beside_open points segments p c _ h g = absurd (not_open points segments p c h.4 g.4)
+beside_open points segments p c (OpenAt q d) h g = let e = one_open points segments p c q d h.1.1.1.1 g.1.1.1.1 in cc
+beside_open points segments p c _ h g = absurd (not_open points segments p c h.1.1.1.1 g.1.1.1.1.0)
 
 beside_side : (points : List Point) (segments : List Segment) (c : ℕ) (at : RatPoint) (s : GeomRefusal) → IsFault (Side c at) points segments → IsFault s points segments → Side c at ≡ s
 beside_side points segments c at NoDomain h g = absurd g
@@ -142,8 +144,8 @@ beside_side points segments c at (SameSides m) h g = sym (beside_same_sides poin
 beside_side points segments c at (NoLength m) h g = sym (beside_no_length points segments m (Side c at) g h)
 beside_side points segments c at (Meet k l) h g = sym (beside_meet points segments k l (Side c at) g h)
 beside_side points segments c at (OpenAt q d) h g = sym (beside_open points segments q d (Side c at) g h)
-beside_side points segments c at (Side d to) h g = let e = one_side points segments c d at to h.5 g.5 in cc
-beside_side points segments c at (Overlap to) h g = absurd (no_side points segments c at h.5 (g.5 c h.5.positive))
+beside_side points segments c at (Side d to) h g = let e = one_side points segments c d at to h.1.1.1.1.1 g.1.1.1.1.1 in cc
+beside_side points segments c at (Overlap to) h g = absurd (no_side points segments c at h.1.1.1.1.1 (g.1.1.1.1.1.0 c h.1.1.1.1.1.positive))
 
 beside_overlap : (points : List Point) (segments : List Segment) (at : RatPoint) (s : GeomRefusal) → IsFault (Overlap at) points segments → IsFault s points segments → Overlap at ≡ s
 beside_overlap points segments at NoDomain h g = absurd g
@@ -155,7 +157,7 @@ beside_overlap points segments at (NoLength m) h g = sym (beside_no_length point
 beside_overlap points segments at (Meet k l) h g = sym (beside_meet points segments k l (Overlap at) g h)
 beside_overlap points segments at (OpenAt q d) h g = sym (beside_open points segments q d (Overlap at) g h)
 beside_overlap points segments at (Side d to) h g = sym (beside_side points segments d to (Overlap at) g h)
-beside_overlap points segments at (Overlap to) h g = ap (λ (z : RatPoint). Overlap z) (one_witness (DoOverlap points segments) (edges_of points segments) at to h.6 g.6)
+beside_overlap points segments at (Overlap to) h g = ap (λ (z : RatPoint). Overlap z) (one_witness (DoOverlap points segments) (edges_of points segments) at to h.1.1.1.1.1.1 g.1.1.1.1.1.1)
 
 one_fault : (points : List Point) (segments : List Segment) (r s : GeomRefusal) → IsFault r points segments → IsFault s points segments → r ≡ s
 one_fault points segments NoDomain s h g = absurd h
@@ -174,7 +176,7 @@ one_fault points segments (Overlap at) s h g = beside_overlap points segments at
 -- where a file is refused
 data IsRefusedAt (raw : RawGeometry) (r : GeomRefusal) : Type 0 where
   at_names : r ≡ NoDomain → ¬ (Any NamesDomain raw.segments) → IsRefusedAt raw r
-  at_rows : (point : ℕ) → r ≡ TooLarge point → Any NamesDomain raw.segments → IsFirstFailing (FitsRow (negsuc 5)) raw.points point → IsRefusedAt raw r
+  at_rows : (point : ℕ) → r ≡ TooLarge point → Any NamesDomain raw.segments → IsFirstFailing (FitsRow COARSEST) raw.points point → IsRefusedAt raw r
   on_grid : IsPlacedFault raw r → IsRefusedAt raw r
   no_memory : r ≡ Memory → IsRefusedAt raw r
 
@@ -201,11 +203,11 @@ one_of_both raw r s (at_names e n) (at_rows q f d g) = absurd (n d)
 one_of_both raw r s (at_names e n) (on_grid g) = absurd (n g.domain)
 one_of_both raw r s (at_rows p e d h) (no_memory f) = inr (inr f)
 one_of_both raw r s (at_rows p e d h) (at_names f m) = absurd (m d)
-one_of_both raw r s (at_rows p e d h) (at_rows q f c g) = inl (e ∙ ap (λ (z : ℕ). TooLarge z) (one_first_failing (FitsRow (negsuc 5)) raw.points p q some_row h g) ∙ sym f)
-one_of_both raw r s (at_rows p e d h) (on_grid g) = absurd (none_fails (FitsRow (negsuc 5)) raw.points p some_row h g.fits)
+one_of_both raw r s (at_rows p e d h) (at_rows q f c g) = inl (e ∙ ap (λ (z : ℕ). TooLarge z) (one_first_failing (FitsRow COARSEST) raw.points p q some_row h g) ∙ sym f)
+one_of_both raw r s (at_rows p e d h) (on_grid g) = absurd (none_fails (FitsRow COARSEST) raw.points p some_row h g.fits)
 one_of_both raw r s (on_grid h) (no_memory f) = inr (inr f)
 one_of_both raw r s (on_grid h) (at_names f m) = absurd (m h.domain)
-one_of_both raw r s (on_grid h) (at_rows q f c g) = absurd (none_fails (FitsRow (negsuc 5)) raw.points q some_row g h.fits)
+one_of_both raw r s (on_grid h) (at_rows q f c g) = absurd (none_fails (FitsRow COARSEST) raw.points q some_row g h.fits)
 one_of_both raw r s (on_grid h) (on_grid g) = inl (one_placed_fault raw r s h g)
 
 pub one_refusal : (raw : RawGeometry) (r s : GeomRefusal) → IsRefusal raw r → IsRefusal raw s → (r ≡ s) ⊎ ((r ≡ Memory) ⊎ (s ≡ Memory))

@@ -16,9 +16,10 @@ use Rattle.geom_check.specs.declared.placing.Placed.{Placed}
 use Rattle.geom_check.specs.Shift.{magnitude_at, signed_as, FitsRow}
 use Rattle.geom_check.specs.Boundary.{IsSegmentOf}
 use Rattle.geom_check.specs.Placed.{IsReadable, IsReadableSegment, IsPlaced, place_of, points_of, segment_of, segments_from, segments_of}
+use Rattle.geom_check.specs.declared.limits.TheConstants.{MOST_ROWS, MOST_UNITS}
 
 -- a magnitude of at most 2 ^ 14 units is at most the grid's in grid steps
-signed_within : (z : ℤ) (m : ℕ) → m ≤ 16384 → IsWithin GRID (signed_as z (64 * m))
+signed_within : (z : ℤ) (m : ℕ) → m ≤ MOST_UNITS → IsWithin GRID (signed_as z (64 * m))
 signed_within (pos n) m h = record { least = omega (arith, ints); greatest = omega (arith, ints) }
 signed_within (negsuc n) m h = record { least = omega (arith, ints); greatest = omega (arith, ints) }
 
@@ -64,8 +65,8 @@ as_many_points shift rows = length-map rows (place_of shift)
 pub record IsJoined (points : List Point) (segments : List Segment) : Type 0 where
   pub on_grid : All IsOnGrid points
   pub joined : All (IsSegmentOf (length points)) segments
-  pub few_points : length points ≤ 4096
-  pub few_segments : length segments ≤ 4096
+  pub few_points : length points ≤ MOST_ROWS
+  pub few_segments : length segments ≤ MOST_ROWS
 
 joined_at : (raw : RawGeometry) (shift : ℤ) → IsReadable raw → All (FitsRow shift) raw.points → IsJoined (points_of shift raw.points) (segments_of shift raw)
 joined_at raw shift h fits = record {

@@ -1,6 +1,9 @@
+-- Powers of ten against the limits of the grid.
 use Rattle.std.proofs.Common.{◌≡◌, ℕ, zero, suc, ◌*◌, ◌/◌, ◌^◌, ◌<◌, ◌≤◌, min, max, arith, suc-mul}
 use Rattle.std.proofs.Math.Nat.{pow-le-pow_right, one-le-pow, div-eq_of_lt}
 use Rattle.geom_check.specs.Shift.{nearest}
+use Rattle.geom_check.specs.declared.limits.TheConstants.{MOST_UNITS}
+use Rattle.grid_geom.specs.declared.TheConstants.{LONGEST}
 
 pub power_most : (e : ℕ) → e ≤ 31 → 10 ^ e ≤ 10 ^ 31
 power_most e h = pow-le-pow_right {n = 10} (omega arith) h
@@ -13,11 +16,11 @@ at_least zero p q h j = absurd (omega arith)
 at_least (suc m) p q h j = omega (arith, suc-mul m p)
 
 -- a number that is not 0 grows past the grid
-pub grows_past : (n e : ℕ) → 0 < n → 4 < e → 16384 < n * 10 ^ e
+pub grows_past : (n e : ℕ) → 0 < n → 4 < e → MOST_UNITS < n * 10 ^ e
 grows_past n e h j = let p : 100000 ≤ 10 ^ e = pow-le-pow_right {n = 10} (omega arith) {i = 5} {j = e} (omega arith) in omega (arith, at_least n (10 ^ e) 100000 h p)
 
 -- and past the greatest length
-pub grows_longest : (n e : ℕ) → 0 < n → 5 < e → 2097152 ≡ max 1 (min 2097152 (64 * n * 10 ^ e))
+pub grows_longest : (n e : ℕ) → 0 < n → 5 < e → LONGEST ≡ max 1 (min LONGEST (64 * n * 10 ^ e))
 grows_longest n e h j =
     let p : 1000000 ≤ 10 ^ e = pow-le-pow_right {n = 10} (omega arith) {i = 6} {j = e} (omega arith) in
     let q : 1000000 ≤ 64 * n * 10 ^ e = at_least (64 * n) (10 ^ e) 1000000 (omega arith) p in

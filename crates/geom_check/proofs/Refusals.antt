@@ -12,7 +12,7 @@ use Rattle.geom_check.specs.Shift.{IsShift}
 use Rattle.geom_check.specs.Placed.{IsPlaced, points_of, segments_of}
 use Rattle.geom_check.specs.Accepted.{NamesDomain, IsPlanar, IsAccepted}
 use Rattle.geom_check.specs.Refused.{IsFault, IsFaultOrMemory, IsPlacedFault, IsPlaceRefusal, IsRefusal}
-use Rattle.geom_check.proofs.Shifts.{one_shift}
+use Rattle.geom_check.proofs.SomeShift.{one_shift}
 
 -- what holds of points and segments as they were placed holds of them at the file's shift
 at_shift : (P : List Point → List Segment → Type 0) (raw : RawGeometry) (placed : Placed) → IsPlaced raw placed → P placed.points placed.segments → (shift : ℤ) → IsShift shift raw.points →

@@ -17,20 +17,22 @@ use Rattle.geom_check.proofs.Divisors.{cancelled}
 use Rattle.geom_check.proofs.KeyOrder.{west_by_keys, keys_by_west, has_key}
 use Rattle.geom_check.proofs.Crossings.{place, place_on, place_height, IsOn, along, riser_at, edge_at, west_of_left, left_of_west}
 use Rattle.geom_check.proofs.Midway.{IsMidway}
+use Rattle.geom_check.specs.declared.limits.TheConstants.{WIDTH}
+use Rattle.grid_geom.specs.declared.TheConstants.{GRID}
 
 -- a riser of the list is on the grid
 pub grid_at : (rs : List Riser) (r : Riser) → All IsRiserOnGrid rs → Contains rs r → IsRiserOnGrid r
 grid_at rs r grid c = subst (λ (x : Riser). IsRiserOnGrid x) c.2 (grid c.0 r c.1)
 
 -- ---- from the gap between two edges to the risers
-same_x : (m p q M a b u w d e : ℤ) → pos 2 *ℤ m *ℤ p *ℤ q ≡ (d *ℤ q +ℤ e *ℤ p) *ℤ M → u *ℤ d ≡ p *ℤ (a -ℤ pos 1048576 *ℤ u) → w *ℤ e ≡ q *ℤ (b -ℤ pos 1048576 *ℤ w) → pos 0 <ℤ p → pos 0 <ℤ q →
-    m *ℤ (pos 2 *ℤ (u *ℤ w)) ≡ (a *ℤ w +ℤ b *ℤ u -ℤ pos 2097152 *ℤ (u *ℤ w)) *ℤ M
+same_x : (m p q M a b u w d e : ℤ) → pos 2 *ℤ m *ℤ p *ℤ q ≡ (d *ℤ q +ℤ e *ℤ p) *ℤ M → u *ℤ d ≡ p *ℤ (a -ℤ GRID *ℤ u) → w *ℤ e ≡ q *ℤ (b -ℤ GRID *ℤ w) → pos 0 <ℤ p → pos 0 <ℤ q →
+    m *ℤ (pos 2 *ℤ (u *ℤ w)) ≡ (a *ℤ w +ℤ b *ℤ u -ℤ pos WIDTH *ℤ (u *ℤ w)) *ℤ M
 same_x m p q M a b u w d e f g h j k = cancelled (p *ℤ q) _ _ (pos_mul p q j k)
     (ring (m ∷ p ∷ q ∷ u ∷ w ∷ []) (var 0 ⊗ (num (pos 2) ⊗ (var 3 ⊗ var 4)) ⊗ (var 1 ⊗ var 2)) ((var 3 ⊗ var 4) ⊗ (num (pos 2) ⊗ var 0 ⊗ var 1 ⊗ var 2)) refl ∙ ap (λ (z : ℤ). (u *ℤ w) *ℤ z) f
     ∙ ring (p ∷ q ∷ M ∷ u ∷ w ∷ d ∷ e ∷ []) ((var 3 ⊗ var 4) ⊗ ((var 5 ⊗ var 1 ⊕ var 6 ⊗ var 0) ⊗ var 2)) (((var 3 ⊗ var 5) ⊗ (var 1 ⊗ var 4) ⊕ (var 4 ⊗ var 6) ⊗ (var 0 ⊗ var 3)) ⊗ var 2) refl
-    ∙ ap (λ (z : ℤ). (z *ℤ (q *ℤ w) +ℤ (w *ℤ e) *ℤ (p *ℤ u)) *ℤ M) g ∙ ap (λ (z : ℤ). ((p *ℤ (a -ℤ pos 1048576 *ℤ u)) *ℤ (q *ℤ w) +ℤ z *ℤ (p *ℤ u)) *ℤ M) h
-    ∙ ring (p ∷ q ∷ M ∷ a ∷ b ∷ u ∷ w ∷ []) (((var 0 ⊗ (var 3 ⊖ num (pos 1048576) ⊗ var 5)) ⊗ (var 1 ⊗ var 6) ⊕ (var 1 ⊗ (var 4 ⊖ num (pos 1048576) ⊗ var 6)) ⊗ (var 0 ⊗ var 5)) ⊗ var 2)
-    ((var 3 ⊗ var 6 ⊕ var 4 ⊗ var 5 ⊖ num (pos 2097152) ⊗ (var 5 ⊗ var 6)) ⊗ var 2 ⊗ (var 0 ⊗ var 1)) refl)
+    ∙ ap (λ (z : ℤ). (z *ℤ (q *ℤ w) +ℤ (w *ℤ e) *ℤ (p *ℤ u)) *ℤ M) g ∙ ap (λ (z : ℤ). ((p *ℤ (a -ℤ GRID *ℤ u)) *ℤ (q *ℤ w) +ℤ z *ℤ (p *ℤ u)) *ℤ M) h
+    ∙ ring (p ∷ q ∷ M ∷ a ∷ b ∷ u ∷ w ∷ []) (((var 0 ⊗ (var 3 ⊖ num GRID ⊗ var 5)) ⊗ (var 1 ⊗ var 6) ⊕ (var 1 ⊗ (var 4 ⊖ num GRID ⊗ var 6)) ⊗ (var 0 ⊗ var 5)) ⊗ var 2)
+    ((var 3 ⊗ var 6 ⊕ var 4 ⊗ var 5 ⊖ num (pos WIDTH) ⊗ (var 5 ⊗ var 6)) ⊗ var 2 ⊗ (var 0 ⊗ var 1)) refl)
 
 same_y : (m M y v : ℤ) → pos 2 *ℤ m ≡ y *ℤ M → m *ℤ (pos 2 *ℤ v) ≡ (y *ℤ v) *ℤ M
 same_y m M y v e = ring (m ∷ v ∷ []) (var 0 ⊗ (num (pos 2) ⊗ var 1)) ((num (pos 2) ⊗ var 0) ⊗ var 1) refl ∙ ap (λ (z : ℤ). z *ℤ v) e ∙ ring (M ∷ y ∷ v ∷ []) ((var 1 ⊗ var 0) ⊗ var 2) ((var 1 ⊗ var 2) ⊗ var 0) refl
@@ -59,9 +61,9 @@ midway_of low high edges rs q r m h are grid g height between = record {
   ];
   rational = height.rational;
   same = record {
-    x = same_x m.x q.k r.k m.k (over (low +ℤ high) first.0) (over (low +ℤ high) second.0) (under first.0) (under second.0) q.x r.x between (along (low +ℤ high) first.0 q g.first.4.height.middle first.2.on) (along (low +ℤ high) second.0 r g.second.4.height.middle second.2.on)
+    same_x = same_x m.x q.k r.k m.k (over (low +ℤ high) first.0) (over (low +ℤ high) second.0) (under first.0) (under second.0) q.x r.x between (along (low +ℤ high) first.0 q g.first.4.height.middle first.2.on) (along (low +ℤ high) second.0 r g.second.4.height.middle second.2.on)
         g.first.4.height.rational.positive g.second.4.height.rational.positive;
-    y = same_y m.y m.k (low +ℤ high) (under first.0 *ℤ under second.0) height.middle;
+    same_y = same_y m.y m.k (low +ℤ high) (under first.0 *ℤ under second.0) height.middle;
   };
 }
   where
@@ -81,11 +83,11 @@ midway_of low high edges rs q r m h are grid g height between = record {
     up t p = tall (low +ℤ high) t (across low high t h p)
 
 -- ---- from neighbouring risers to the gap between two edges
-between_places : (m M a b u w : ℤ) → m *ℤ (pos 2 *ℤ (u *ℤ w)) ≡ (a *ℤ w +ℤ b *ℤ u -ℤ pos 2097152 *ℤ (u *ℤ w)) *ℤ M →
-    pos 2 *ℤ m *ℤ (pos 2 *ℤ u) *ℤ (pos 2 *ℤ w) ≡ ((pos 2 *ℤ (a -ℤ pos 1048576 *ℤ u)) *ℤ (pos 2 *ℤ w) +ℤ (pos 2 *ℤ (b -ℤ pos 1048576 *ℤ w)) *ℤ (pos 2 *ℤ u)) *ℤ M
+between_places : (m M a b u w : ℤ) → m *ℤ (pos 2 *ℤ (u *ℤ w)) ≡ (a *ℤ w +ℤ b *ℤ u -ℤ pos WIDTH *ℤ (u *ℤ w)) *ℤ M →
+    pos 2 *ℤ m *ℤ (pos 2 *ℤ u) *ℤ (pos 2 *ℤ w) ≡ ((pos 2 *ℤ (a -ℤ GRID *ℤ u)) *ℤ (pos 2 *ℤ w) +ℤ (pos 2 *ℤ (b -ℤ GRID *ℤ w)) *ℤ (pos 2 *ℤ u)) *ℤ M
 between_places m M a b u w e = ring (m ∷ u ∷ w ∷ []) (num (pos 2) ⊗ var 0 ⊗ (num (pos 2) ⊗ var 1) ⊗ (num (pos 2) ⊗ var 2)) (num (pos 4) ⊗ (var 0 ⊗ (num (pos 2) ⊗ (var 1 ⊗ var 2)))) refl ∙ ap (λ (z : ℤ). pos 4 *ℤ z) e
-    ∙ ring (M ∷ a ∷ b ∷ u ∷ w ∷ []) (num (pos 4) ⊗ ((var 1 ⊗ var 4 ⊕ var 2 ⊗ var 3 ⊖ num (pos 2097152) ⊗ (var 3 ⊗ var 4)) ⊗ var 0))
-    (((num (pos 2) ⊗ (var 1 ⊖ num (pos 1048576) ⊗ var 3)) ⊗ (num (pos 2) ⊗ var 4) ⊕ (num (pos 2) ⊗ (var 2 ⊖ num (pos 1048576) ⊗ var 4)) ⊗ (num (pos 2) ⊗ var 3)) ⊗ var 0) refl
+    ∙ ring (M ∷ a ∷ b ∷ u ∷ w ∷ []) (num (pos 4) ⊗ ((var 1 ⊗ var 4 ⊕ var 2 ⊗ var 3 ⊖ num (pos WIDTH) ⊗ (var 3 ⊗ var 4)) ⊗ var 0))
+    (((num (pos 2) ⊗ (var 1 ⊖ num GRID ⊗ var 3)) ⊗ (num (pos 2) ⊗ var 4) ⊕ (num (pos 2) ⊗ (var 2 ⊖ num GRID ⊗ var 4)) ⊗ (num (pos 2) ⊗ var 3)) ⊗ var 0) refl
 
 middle_height : (m M y v : ℤ) → pos 0 <ℤ v → m *ℤ (pos 2 *ℤ v) ≡ (y *ℤ v) *ℤ M → pos 2 *ℤ m ≡ y *ℤ M
 middle_height m M y v h e = cancelled v _ _ h (ring (m ∷ v ∷ []) ((num (pos 2) ⊗ var 0) ⊗ var 1) (var 0 ⊗ (num (pos 2) ⊗ var 1)) refl ∙ e ∙ ring (M ∷ y ∷ v ∷ []) ((var 1 ⊗ var 2) ⊗ var 0) ((var 1 ⊗ var 0) ⊗ var 2) refl)
@@ -93,7 +95,7 @@ middle_height m M y v h e = cancelled v _ _ h (ring (m ∷ v ∷ []) ((num (pos 
 pub midway_height : (low high : ℤ) (rs : List Riser) (m : RatPoint) → low <ℤ high → IsMidway low high rs m → IsMiddleHeight low high m
 midway_height low high rs m h w = record {
   rational = w.rational;
-  middle = middle_height m.y m.k (low +ℤ high) (under w.left *ℤ under w.right) (pos_mul (under w.left) (under w.right) (tall (low +ℤ high) w.left (across low high w.left h w.left_passing)) (tall (low +ℤ high) w.right (across low high w.right h w.right_passing))) w.same.y;
+  middle = middle_height m.y m.k (low +ℤ high) (under w.left *ℤ under w.right) (pos_mul (under w.left) (under w.right) (tall (low +ℤ high) w.left (across low high w.left h w.left_passing)) (tall (low +ℤ high) w.right (across low high w.right h w.right_passing))) w.same.same_y;
 }
 
 pub gap_of : (low high : ℤ) (edges : List Edge) (rs : List Riser) (m : RatPoint) → low <ℤ high → IsStrip edges low high → AreRisersOf edges rs → All IsRiserOnGrid rs → IsMidway low high rs m → IsGapMiddle edges m
@@ -111,7 +113,7 @@ gap_of low high edges rs m h strip are grid w = record {
     successive = λ q c l r. no_crossing q c.4.height (riser_at low high edges rs q h are c) l r;
   };
   height = midway_height low high rs m h w;
-  between = between_places m.x m.k (over (low +ℤ high) w.left) (over (low +ℤ high) w.right) (under w.left) (under w.right) w.same.x;
+  between = between_places m.x m.k (over (low +ℤ high) w.left) (over (low +ℤ high) w.right) (under w.left) (under w.right) w.same.same_x;
 }
   where
     up : (t : Riser) → IsPassing low high t → pos 0 <ℤ under t

@@ -18,6 +18,7 @@ use Rattle.geom_check.specs.declared.risers.Riser.{Riser}
 use Rattle.geom_check.specs.RiserOrder.{over, under, IsAt, IsAcross, IsFree, IsWest, IsInStrip, IsPassing, IsKey}
 use Rattle.geom_check.specs.Gaps.{middle}
 use Rattle.geom_check.proofs.RiserPlace.{tall, middle_at, middle_k, middle_left, middle_right, beside_first, beside_second}
+use Rattle.geom_check.specs.declared.limits.TheConstants.{MOST_UNDER, PARTS}
 
 pub across : (low high : ℤ) (r : Riser) → low <ℤ high → IsPassing low high r → IsAcross (low +ℤ high) r
 across low high r h p = record { below = omega (arith, ints, p.from_low, p.to_high); above = omega (arith, ints, p.from_low, p.to_high) }
@@ -131,14 +132,14 @@ west_or_east y r s h j f = elim (ordered (over y r *ℤ under s) (over y s *ℤ 
     level_second : (o t m n : ℤ) → pos 2 *ℤ o ≡ t *ℤ (m -ℤ n) → n ≡ m → o ≡ pos 0
     level_second o t m n e f = none o t (t *ℤ (m -ℤ n)) e (flat t m n f)
 
-key_order : (m n p q k l : ℕ) → 0 < n → 0 < q → n ≤ 4194304 → q ≤ 4194304 → k ≡ m * 70368744177664 / n → l ≡ p * 70368744177664 / q → k ≤ l → p * n < m * q → ⊥
+key_order : (m n p q k l : ℕ) → 0 < n → 0 < q → n ≤ MOST_UNDER → q ≤ MOST_UNDER → k ≡ m * PARTS / n → l ≡ p * PARTS / q → k ≤ l → p * n < m * q → ⊥
 key_order m n p q k l hn hq sn sq ek el h w =
-    let a : m * 70368744177664 < k * n + n = subst (λ (z : ℕ). m * 70368744177664 < z * n + n) (sym ek) (lt-div-mul-add {a = m * 70368744177664} {b = n} hn) in
-    let b : l * q ≤ p * 70368744177664 = subst (λ (z : ℕ). z * q ≤ p * 70368744177664) (sym el) (div-mul-le_self (p * 70368744177664) q) in
-    let c : m * 70368744177664 * q < (k * n + n) * q = mul-lt-mul_of_pos_right a hq in
-    let d : l * q * n ≤ p * 70368744177664 * n = mul-le-mul_right n b in
+    let a : m * PARTS < k * n + n = subst (λ (z : ℕ). m * PARTS < z * n + n) (sym ek) (lt-div-mul-add {a = m * PARTS} {b = n} hn) in
+    let b : l * q ≤ p * PARTS = subst (λ (z : ℕ). z * q ≤ p * PARTS) (sym el) (div-mul-le_self (p * PARTS) q) in
+    let c : m * PARTS * q < (k * n + n) * q = mul-lt-mul_of_pos_right a hq in
+    let d : l * q * n ≤ p * PARTS * n = mul-le-mul_right n b in
     let e : k * n * q ≤ l * n * q = mul-le-mul_right q (mul-le-mul_right n h) in
-    let f : n * q ≤ 4194304 * 4194304 = mul-le-mul sn sq in
+    let f : n * q ≤ MOST_UNDER * MOST_UNDER = mul-le-mul sn sq in
     omega (arith, c, d, e, f, w)
 
 -- keys that don't fall don't belong to places that do

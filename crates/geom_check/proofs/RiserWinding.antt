@@ -22,7 +22,7 @@ use Rattle.grid_geom.proofs.Signs.{ordered, pos_mul}
 use Rattle.wind_law.proofs.HalfOpen.{cross_back, level_edge}
 use Rattle.geom_check.specs.declared.kinds.Segment.{Segment}
 use Rattle.geom_check.specs.declared.risers.Riser.{Riser}
-use Rattle.geom_check.specs.Boundary.{point_at, edge_of, reversed, with_edge, boundary}
+use Rattle.geom_check.specs.Boundary.{point_at, edge_of, back, with_edge, boundary}
 use Rattle.geom_check.specs.Risers.{with_riser, upwards, downwards, risers_of, covers, one_if, wests, easts, winding_of}
 
 -- an edge upwards counts 1 where its riser covers q
@@ -42,7 +42,7 @@ pub lt_false : (u w : ℤ) → w ≤ℤ u → lt_z u w ≡ false
 lt_false u w h = grind (arith, ints)
 
 -- the parts of a segment, on the side of the domain to its left and to its right
-part : (b c : Bool) (e : Edge) (es : List Edge) (q : RatPoint) → wind q (with_edge b e (with_edge c (reversed e) es)) ≡ (cond b (cross q e) (pos 0) +ℤ cond c (cross q (reversed e)) (pos 0)) +ℤ wind q es
+part : (b c : Bool) (e : Edge) (es : List Edge) (q : RatPoint) → wind q (with_edge b e (with_edge c (back e) es)) ≡ (cond b (cross q e) (pos 0) +ℤ cond c (cross q (back e)) (pos 0)) +ℤ wind q es
 part true true e es q = omega (arith, ints)
 part true false e es q = omega (arith, ints)
 part false true e es q = omega (arith, ints)
@@ -88,19 +88,19 @@ wind_is q points d (s ∷ ss) kq = elim (ordered (point_at points s.p).y (point_
   | inl up ↦
       subst (λ (rs : List Riser). wind q (boundary points d (s ∷ ss)) ≡ winding_of (λ n. n == d) q rs) (sym (turned true false (lt_true (point_at points s.p).y (point_at points s.q).y up) (lt_false (point_at points s.q).y (point_at points s.p).y (omega (arith, ints)))))
       (joined _ _ (wind q (boundary points d ss)) (one_if (and (covers q (upwards points s)) (s.left == d))) (one_if (and (covers q (upwards points s)) (s.right == d))) (wests (λ n. n == d) q (risers_of points ss)) (easts (λ n. n == d) q (risers_of points ss))
-      (part (s.left == d) (s.right == d) (edge_of points s) (boundary points d ss) q) (sides (covers q (upwards points s)) (s.left == d) (s.right == d) (cross q (edge_of points s)) (cross q (reversed (edge_of points s))) (rising ((point_at points s.p).y *ℤ q.k) ((point_at points s.q).y *ℤ q.k) q.y (orient_rat (point_at points s.p) (point_at points s.q) q) (steeper (point_at points s.p).y (point_at points s.q).y q.k up kq.positive)) (cross_back q (point_at points s.p) (point_at points s.q))) (wind_is q points d ss kq) ∙ sym (winding_cons (λ n. n == d) q (upwards points s) (risers_of points ss)))
+      (part (s.left == d) (s.right == d) (edge_of points s) (boundary points d ss) q) (sides (covers q (upwards points s)) (s.left == d) (s.right == d) (cross q (edge_of points s)) (cross q (back (edge_of points s))) (rising ((point_at points s.p).y *ℤ q.k) ((point_at points s.q).y *ℤ q.k) q.y (orient_rat (point_at points s.p) (point_at points s.q) q) (steeper (point_at points s.p).y (point_at points s.q).y q.k up kq.positive)) (cross_back q (point_at points s.p) (point_at points s.q))) (wind_is q points d ss kq) ∙ sym (winding_cons (λ n. n == d) q (upwards points s) (risers_of points ss)))
   | inr r ↦ elim r [
     | inr down ↦
         subst (λ (rs : List Riser). wind q (boundary points d (s ∷ ss)) ≡ winding_of (λ n. n == d) q rs) (sym (turned false true (lt_false (point_at points s.p).y (point_at points s.q).y (omega (arith, ints))) (lt_true (point_at points s.q).y (point_at points s.p).y down)))
         (joined _ _ (wind q (boundary points d ss)) (one_if (and (covers q (downwards points s)) (s.right == d))) (one_if (and (covers q (downwards points s)) (s.left == d))) (wests (λ n. n == d) q (risers_of points ss)) (easts (λ n. n == d) q (risers_of points ss))
         (part (s.left == d) (s.right == d) (edge_of points s) (boundary points d ss) q)
-        (swapped (cond (s.right == d) (cross q (reversed (edge_of points s))) (pos 0)) (cond (s.left == d) (cross q (edge_of points s)) (pos 0)) _ (sides (covers q (downwards points s)) (s.right == d) (s.left == d) (cross q (reversed (edge_of points s))) (cross q (edge_of points s)) (rising ((point_at points s.q).y *ℤ q.k) ((point_at points s.p).y *ℤ q.k) q.y (orient_rat (point_at points s.q) (point_at points s.p) q) (steeper (point_at points s.q).y (point_at points s.p).y q.k down kq.positive)) (cross_back q (point_at points s.q) (point_at points s.p))))
+        (swapped (cond (s.right == d) (cross q (back (edge_of points s))) (pos 0)) (cond (s.left == d) (cross q (edge_of points s)) (pos 0)) _ (sides (covers q (downwards points s)) (s.right == d) (s.left == d) (cross q (back (edge_of points s))) (cross q (edge_of points s)) (rising ((point_at points s.q).y *ℤ q.k) ((point_at points s.p).y *ℤ q.k) q.y (orient_rat (point_at points s.q) (point_at points s.p) q) (steeper (point_at points s.q).y (point_at points s.p).y q.k down kq.positive)) (cross_back q (point_at points s.q) (point_at points s.p))))
         (wind_is q points d ss kq) ∙ sym (winding_cons (λ n. n == d) q (downwards points s) (risers_of points ss)))
     | inl level ↦
         subst (λ (rs : List Riser). wind q (boundary points d (s ∷ ss)) ≡ winding_of (λ n. n == d) q rs) (sym (turned false false (lt_false (point_at points s.p).y (point_at points s.q).y (omega (arith, ints))) (lt_false (point_at points s.q).y (point_at points s.p).y (omega (arith, ints)))))
         (joined _ _ (wind q (boundary points d ss)) 0 0 (wests (λ n. n == d) q (risers_of points ss)) (easts (λ n. n == d) q (risers_of points ss))
         (part (s.left == d) (s.right == d) (edge_of points s) (boundary points d ss) q)
-        (none_of_pair (s.left == d) (s.right == d) (cross q (edge_of points s)) (cross q (reversed (edge_of points s))) (level_edge ((point_at points s.p).y *ℤ q.k) ((point_at points s.q).y *ℤ q.k) q.y (orient_rat (point_at points s.p) (point_at points s.q) q) (ap (λ (z : ℤ). z *ℤ q.k) (sym level))) (level_edge ((point_at points s.q).y *ℤ q.k) ((point_at points s.p).y *ℤ q.k) q.y (orient_rat (point_at points s.q) (point_at points s.p) q) (ap (λ (z : ℤ). z *ℤ q.k) level)))
+        (none_of_pair (s.left == d) (s.right == d) (cross q (edge_of points s)) (cross q (back (edge_of points s))) (level_edge ((point_at points s.p).y *ℤ q.k) ((point_at points s.q).y *ℤ q.k) q.y (orient_rat (point_at points s.p) (point_at points s.q) q) (ap (λ (z : ℤ). z *ℤ q.k) (sym level))) (level_edge ((point_at points s.q).y *ℤ q.k) ((point_at points s.p).y *ℤ q.k) q.y (orient_rat (point_at points s.q) (point_at points s.p) q) (ap (λ (z : ℤ). z *ℤ q.k) level)))
         (wind_is q points d ss kq) ∙ plain (wests (λ n. n == d) q (risers_of points ss)) (easts (λ n. n == d) q (risers_of points ss)))
   ]
 ]

@@ -1,15 +1,17 @@
-use Rattle.std.proofs.Common.{◌≡◌, ℕ, suc, ◌+◌, ◌<◌, ◌==◌, Bool, ◌∷◌, Option, Some, None, IfSome, IsSome, All, List, length, drop, slice_index_or, cond, ℤ, pos, arith, sym, ◌∙◌, ap, subst, inl, inr}
+-- Rows of a file, one after another: the first with a number, the first that does not fit.
+use Rattle.std.proofs.Common.{◌≡◌, ℕ, suc, ◌+◌, ◌<◌, ◌==◌, Bool, ◌∷◌, Option, Some, None, IfSome, IsSome, All, List, length, drop, slice_index_or, cond, ℤ, pos, arith, sym, ◌∙◌, ap, subst, inl, inr, true, false, ◌||◌, [], refl}
 use lib.IntN.{◌-ℤ◌}
 use lib.Signed.{◌<ℤ◌, ◌≤ℤ◌}
 use Rattle.std.proofs.Math.Seq.{drop-cons}
 use Rattle.std.proofs.lemmas.Int.{ints}
 use Rattle.std.specs.Ordering.{nat_cmp}
 use Rattle.std.specs.BTreeMap as tree
-use Rattle.std.specs.List.{position_from}
+use Rattle.std.specs.List.{position_from, list_any}
 use Rattle.in2d_reader.specs.declared.geometry.PointRow.{PointRow}
 use Rattle.grid_geom.proofs.Signs.{ordered}
 use Rattle.geom_check.specs.Shift.{FitsRow}
 use Rattle.geom_check.specs.Refused.{IsFirstFailing}
+use Rattle.geom_check.specs.declared.limits.TheConstants.{FINEST}
 
 some_row : PointRow
 some_row = record { number = 0; x = record { digits = pos 0; scale = pos 0 }; y = record { digits = pos 0; scale = pos 0 }; maxh = None }
@@ -33,8 +35,8 @@ earlier_row rows k i v d number old new e f h o n =
 not_all : (shift : ℤ) (rows : List PointRow) (i : ℕ) → IsFirstFailing (FitsRow shift) rows i → All (FitsRow shift) rows → ⊥
 not_all shift rows i f all = f.fails some_row (all f.index some_row f.in_list)
 
-pub finer_fails : (rows : List PointRow) (down : ℕ) (shift : ℤ) (r : Option ℕ) → shift ≡ pos 8 -ℤ pos down → ((d : ℤ) → (pos 8 -ℤ pos down) <ℤ d → d ≤ℤ pos 8 → ¬ (All (FitsRow d) rows)) →
-    IfSome r (λ i. IsFirstFailing (FitsRow shift) rows i) → IsSome r → (d : ℤ) → (pos 8 -ℤ pos (down + 1)) <ℤ d → d ≤ℤ pos 8 → ¬ (All (FitsRow d) rows)
+pub finer_fails : (rows : List PointRow) (down : ℕ) (shift : ℤ) (r : Option ℕ) → shift ≡ FINEST -ℤ pos down → ((d : ℤ) → (FINEST -ℤ pos down) <ℤ d → d ≤ℤ FINEST → ¬ (All (FitsRow d) rows)) →
+    IfSome r (λ i. IsFirstFailing (FitsRow shift) rows i) → IsSome r → (d : ℤ) → (FINEST -ℤ pos (down + 1)) <ℤ d → d ≤ℤ FINEST → ¬ (All (FitsRow d) rows)
 finer_fails rows down shift (Some i) e finer f s d h j all = elim (ordered shift d) [
   | inl n ↦ finer d (omega (arith, ints)) j all
   | inr r ↦ elim r [
@@ -47,3 +49,12 @@ finer_fails rows down shift None e finer f s d h j all = cc
 -- a look-up of a known number finds it
 pub known : (r s t u : Option ℕ) → r ≡ s → s ≡ t → t ≡ u → IsSome u → IsSome r
 known r s t u e f g h = subst (λ (o : Option ℕ). IsSome o) (sym (e ∙ f ∙ g)) h
+
+-- ---- a row that passes a test is found
+found_later : (b later : Bool) (i : ℕ) (rest : Option ℕ) → (later ≡ true → IsSome rest) → (b || later) ≡ true → IsSome (cond b (Some i) rest)
+found_later true later i rest h e = refl
+found_later false later i rest h e = h e
+
+pub row_is_known : {A : Type 0} (test : A → Bool) (items : List A) (i : ℕ) → list_any test items ≡ true → IsSome (position_from test i items)
+row_is_known test [] i e = cc
+row_is_known test (x ∷ xs) i e = found_later (test x) (list_any test xs) i (position_from test (i + 1) xs) (row_is_known test xs (i + 1)) e

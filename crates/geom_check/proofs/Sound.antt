@@ -15,7 +15,7 @@ use Rattle.grid_geom.proofs.Ring.{var, num, ◌⊕◌, ◌⊖◌, ◌⊗◌, rin
 use Rattle.grid_geom.proofs.OnSegment.{on_closed}
 use Rattle.geom_check.specs.declared.kinds.Segment.{Segment}
 use Rattle.geom_check.specs.Boundary.{point_at, edges_of}
-use Rattle.geom_check.specs.Accepted.{IsSide, HasSides}
+use Rattle.geom_check.specs.Accepted.{IsZeroOrOne, WindsAtMostOnce}
 use Rattle.geom_check.specs.Risers.{upwards, downwards, risers_of, is_beside}
 use Rattle.geom_check.specs.RiserOrder.{IsOffRisers, IsSoundAll}
 use Rattle.geom_check.proofs.RiserWinding.{wind_is}
@@ -91,5 +91,5 @@ off_risers q points ss kq off = risers_all (λ r. is_beside q r ≡ true → ori
     )
 
 -- where the strips find no fault of a domain, it has winding numbers 0 and 1 at all places off the segments
-pub sides_by : (points : List Point) (d : ℕ) (ss : List Segment) → IsSoundAll (λ n. n == d) (risers_of points ss) → HasSides points ss d
-sides_by points d ss sound q kq off = subst (λ (n : ℤ). IsSide n) (sym (wind_is q points d ss kq)) (sound q kq (off_risers q points ss kq off))
+pub sides_by : (points : List Point) (d : ℕ) (ss : List Segment) → IsSoundAll (λ n. n == d) (risers_of points ss) → WindsAtMostOnce points ss d
+sides_by points d ss sound q kq off = subst (λ (n : ℤ). IsZeroOrOne n) (sym (wind_is q points d ss kq)) (sound q kq (off_risers q points ss kq off))

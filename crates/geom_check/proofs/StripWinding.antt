@@ -1,6 +1,6 @@
 -- The winding number of the chosen domains at a place of a strip, by the risers to its left.
 use Rattle.std.proofs.Common.{◌≡◌, ◌≢◌, ℕ, suc, ◌+◌, ◌<◌, ◌≤◌, Bool, true, false, List, [], ◌∷◌, length, slice_index_or, All, Contains, take, drop, filter, sum_by, sym, ◌∙◌, ap, subst, refl, arith, cond, inl, inr}
-use lib.IntN.{ℤ, pos, negsuc, ◌+ℤ◌, ◌-ℤ◌, ◌*ℤ◌}
+use lib.IntN.{ℤ, pos, ◌+ℤ◌, ◌-ℤ◌, ◌*ℤ◌, neg_ℤ}
 use lib.Signed.{◌<ℤ◌, ◌≤ℤ◌, lt_z, le_z}
 use Rattle.std.proofs.lemmas.Int.{ints}
 use Rattle.std.proofs.lemmas.List.Sums.{sum_by-cons, sum_by-take-drop}
@@ -12,11 +12,12 @@ use Rattle.geom_check.specs.declared.risers.Riser.{Riser}
 use Rattle.geom_check.specs.declared.risers.Passing.{Passing}
 use Rattle.geom_check.specs.Risers.{passes, covers, is_left, is_beside, one_if, winding_of}
 use Rattle.geom_check.specs.RiserOrder.{over, under, IsFree, IsInStrip, IsPassing, IsKey, IsClear, IsOrder, IsOffRisers, IsSound, far, west_of, east_of, rises}
-use Rattle.geom_check.specs.Accepted.{IsSide}
+use Rattle.geom_check.specs.Accepted.{IsZeroOrOne}
 use Rattle.geom_check.proofs.RiserOrder.{across, ordered_sides, west_or_east, keys_ordered}
 use Rattle.geom_check.proofs.Splits.{split, all_counted}
 use Rattle.geom_check.proofs.RiserPlace.{side_at, tall}
 use Rattle.grid_geom.proofs.Ring.{var, num, ◌⊗◌, ring}
+use Rattle.grid_geom.specs.declared.TheConstants.{GRID}
 
 -- what is true of the tests of a riser at a place of the strip
 pub passing_test : (low high : ℤ) (r : Riser) → passes low high r ≡ true → IsPassing low high r
@@ -130,26 +131,26 @@ strip_winding low high q chosen rs items h i clear o off balance = record {
     joined w e wd ed wt et wa ea f g h i j = omega (arith, ints)
 
 -- ---- far to the left of all risers
-far_left : (y : ℤ) (r : Riser) (n : ℕ) → pos n ≡ over y r → pos 0 <ℤ under r → pos 0 <ℤ orient_rat r.a r.b (record { x = negsuc 2097153; y = y; k = pos 2 })
-far_left y r n e h = half _ _ (side_at y r (record { x = negsuc 2097153; y = y; k = pos 2 }) (ring (y ∷ []) (num (pos 2) ⊗ var 0) (var 0 ⊗ num (pos 2)) refl)) (wide (over y r) (under r) n e h)
+far_left : (y : ℤ) (r : Riser) (n : ℕ) → pos n ≡ over y r → pos 0 <ℤ under r → pos 0 <ℤ orient_rat r.a r.b (far y)
+far_left y r n e h = half _ _ (side_at y r (far y) (ring (y ∷ []) (num (pos 2) ⊗ var 0) (var 0 ⊗ num (pos 2)) refl)) (wide (over y r) (under r) n e h)
   where
     half : (m n : ℤ) → pos 2 *ℤ m ≡ n → pos 0 <ℤ n → pos 0 <ℤ m
     half m n e h = omega (arith, ints)
 
-    wide : (m u : ℤ) (n : ℕ) → pos n ≡ m → pos 0 <ℤ u → pos 0 <ℤ (pos 2 *ℤ (m -ℤ pos 1048576 *ℤ u) -ℤ u *ℤ negsuc 2097153)
+    wide : (m u : ℤ) (n : ℕ) → pos n ≡ m → pos 0 <ℤ u → pos 0 <ℤ (pos 2 *ℤ (m -ℤ GRID *ℤ u) -ℤ u *ℤ neg_ℤ (pos 2 *ℤ (GRID +ℤ pos 1)))
     wide m u n e h = omega (arith, ints)
 
 -- the risers of a strip balance, where nothing winds round a place far to their left
 pub balanced : (low high : ℤ) (chosen : ℕ → Bool) (rs : List Riser) (items : List Passing) → low <ℤ high → All (IsClear low high) rs → IsOrder low high rs items →
-    winding_of chosen (record { x = negsuc 2097153; y = low +ℤ high; k = pos 2 }) rs ≡ pos 0 → sum_by (west_of chosen) items ≡ sum_by (east_of chosen) items
+    winding_of chosen (far (low +ℤ high)) rs ≡ pos 0 → sum_by (west_of chosen) items ≡ sum_by (east_of chosen) items
 balanced low high chosen rs items h clear o z = same _ _ _ _ (side_sum (λ r. chosen r.west)) (side_sum (λ r. chosen r.east)) z
   where
-    in_strip : IsInStrip low high (record { x = negsuc 2097153; y = low +ℤ high; k = pos 2 })
+    in_strip : IsInStrip low high (far (low +ℤ high))
     in_strip = record { rational = omega (arith, ints); from_low = omega (arith, ints); below_high = omega (arith, ints) }
 
-    side_sum : (side : Riser → Bool) → sum_by (λ r. one_if (and (covers (record { x = negsuc 2097153; y = low +ℤ high; k = pos 2 }) r) (side r))) rs ≡ sum_by (λ p. one_if (side p.riser)) items
-    side_sum side = by_passing low high (record { x = negsuc 2097153; y = low +ℤ high; k = pos 2 }) side rs in_strip clear ∙ sym (o.same (λ r. cond (is_left (record { x = negsuc 2097153; y = low +ℤ high; k = pos 2 }) r) (one_if (side r)) 0))
-        ∙ all_counted (λ p. is_left (record { x = negsuc 2097153; y = low +ℤ high; k = pos 2 }) p.riser) (λ p. one_if (side p.riser)) items (λ i d g. left_by _ (far_left (low +ℤ high) (slice_index_or items i d).riser (o.keys i d g).over_is (o.keys i d g).same_over (tall (low +ℤ high) (slice_index_or items i d).riser (across low high (slice_index_or items i d).riser h (o.passing i d g)))))
+    side_sum : (side : Riser → Bool) → sum_by (λ r. one_if (and (covers (far (low +ℤ high)) r) (side r))) rs ≡ sum_by (λ p. one_if (side p.riser)) items
+    side_sum side = by_passing low high (far (low +ℤ high)) side rs in_strip clear ∙ sym (o.same (λ r. cond (is_left (far (low +ℤ high)) r) (one_if (side r)) 0))
+        ∙ all_counted (λ p. is_left (far (low +ℤ high)) p.riser) (λ p. one_if (side p.riser)) items (λ i d g. left_by _ (far_left (low +ℤ high) (slice_index_or items i d).riser (o.keys i d g).over_is (o.keys i d g).same_over (tall (low +ℤ high) (slice_index_or items i d).riser (across low high (slice_index_or items i d).riser h (o.passing i d g)))))
 
     same : (w e m n : ℕ) → w ≡ m → e ≡ n → pos w -ℤ pos e ≡ pos 0 → m ≡ n
     same w e m n f g z = omega (arith, ints)
@@ -163,7 +164,7 @@ off_items low high q rs items s o off i d h = off_one (slice_index_or items i d)
 
 -- a strip in which the walk finds no fault
 pub sound_strip : (low high : ℤ) (chosen : ℕ → Bool) (rs : List Riser) (items : List Passing) → low <ℤ high → All (IsClear low high) rs → IsOrder low high rs items → winding_of chosen (far (low +ℤ high)) rs ≡ pos 0 →
-    ((i : ℕ) → i ≤ length items → IsSide (rises chosen (take i items))) → IsSound low high chosen rs
+    ((i : ℕ) → i ≤ length items → IsZeroOrOne (rises chosen (take i items))) → IsSound low high chosen rs
 sound_strip low high chosen rs items h clear o z sides q s off =
     let split : IsSplit q chosen rs items = strip_winding low high q chosen rs items h s clear o (off_items low high q rs items s o off) (balanced low high chosen rs items h clear o z) in
-    subst (λ (n : ℤ). IsSide n) (sym split.winding) (sides split.at split.in_list)
+    subst (λ (n : ℤ). IsZeroOrOne n) (sym split.winding) (sides split.at split.in_list)

@@ -8,7 +8,7 @@ use Rattle.std.proofs.lemmas.List.Sums.{sum_by-cons}
 use Rattle.grid_geom.specs.declared.RatPoint.{RatPoint}
 use Rattle.grid_geom.specs.Winding.{and}
 use Rattle.geom_check.specs.declared.risers.Riser.{Riser}
-use Rattle.geom_check.specs.Accepted.{IsSide}
+use Rattle.geom_check.specs.Accepted.{IsZeroOrOne}
 use Rattle.geom_check.specs.Risers.{is_chosen, one_if, covers, winding_of}
 
 -- the sum of f over the numbers from 1 to n
@@ -84,7 +84,7 @@ together q rs n all = sym (total_is q rs n ∙ joined _ _ _ _ (sum_any (covers q
 -- ---- sums of numbers that are 0 or 1
 -- f is 0 or 1 from 1 to n
 abbrev pub AreSides : (ℕ → ℤ) → ℕ → Type 0
-AreSides f n = (d : ℕ) → 0 < d → d ≤ n → IsSide (f d)
+AreSides f n = (d : ℕ) → 0 < d → d ≤ n → IsZeroOrOne (f d)
 
 -- f is 1 at two numbers from 1 to n
 pub record HasTwo (f : ℕ → ℤ) (n : ℕ) : Type 0 where
@@ -119,20 +119,20 @@ counted f (suc n) sides = next (counted f n (λ d h k. sides d h (omega arith)))
     plus : (x y z w : ℤ) → x ≡ z → y ≡ w → x +ℤ y ≡ z +ℤ w
     plus x y z w e g = omega (arith, ints)
 
-    next : (total f n ≡ pos 0) ⊎ (HasOne f n ⊎ HasTwo f n) → IsSide (f (suc n)) → (total f (suc n) ≡ pos 0) ⊎ (HasOne f (suc n) ⊎ HasTwo f (suc n))
+    next : (total f n ≡ pos 0) ⊎ (HasOne f n ⊎ HasTwo f n) → IsZeroOrOne (f (suc n)) → (total f (suc n) ≡ pos 0) ⊎ (HasOne f (suc n) ⊎ HasTwo f (suc n))
     next (inl e) (inl z) = inl (plus (total f n) (f (suc n)) (pos 0) (pos 0) e z)
     next (inl e) (inr z) = inr (inl (record { c = suc n; positive = omega arith; within = omega arith; at_c = z; once = plus (total f n) (f (suc n)) (pos 0) (pos 1) e z }))
     next (inr (inl o)) (inl z) = inr (inl (record { c = o.c; positive = o.positive; within = omega (arith, o.within); at_c = o.at_c; once = plus (total f n) (f (suc n)) (pos 1) (pos 0) o.once z }))
     next (inr (inl o)) (inr z) = inr (inr (record { c = o.c; d = suc n; positive = o.positive; ordered = omega (arith, o.within); within = omega arith; at_c = o.at_c; at_d = z }))
     next (inr (inr t)) s = inr (inr (record { c = t.c; d = t.d; positive = t.positive; ordered = t.ordered; within = omega (arith, t.within); at_c = t.at_c; at_d = t.at_d }))
 
-pub two_of_total : (f : ℕ → ℤ) (n : ℕ) → AreSides f n → ¬ (IsSide (total f n)) → HasTwo f n
+pub two_of_total : (f : ℕ → ℤ) (n : ℕ) → AreSides f n → ¬ (IsZeroOrOne (total f n)) → HasTwo f n
 two_of_total f n sides other = elim (counted f n sides) [
   | inl e ↦ absurd (other (inl e))
   | inr r ↦ elim r [ inl o ↦ absurd (other (inr o.once)) | inr t ↦ t ]
 ]
 
-not_negative : (x : ℤ) → IsSide x → pos 0 ≤ℤ x
+not_negative : (x : ℤ) → IsZeroOrOne x → pos 0 ≤ℤ x
 not_negative x (inl e) = omega (arith, ints)
 not_negative x (inr e) = omega (arith, ints)
 
@@ -169,9 +169,9 @@ at_least_two f (suc n) c d sides h o k e g = elim (cases_lt n d) [
     more : (x y : ℤ) → pos 2 ≤ℤ x → pos 0 ≤ℤ y → pos 2 ≤ℤ (x +ℤ y)
     more x y h k = omega (arith, ints)
 
-no_side : (x : ℤ) → pos 2 ≤ℤ x → IsSide x → ⊥
+no_side : (x : ℤ) → pos 2 ≤ℤ x → IsZeroOrOne x → ⊥
 no_side x h (inl e) = omega (arith, ints)
 no_side x h (inr e) = omega (arith, ints)
 
-pub total_of_two : (f : ℕ → ℤ) (n : ℕ) → AreSides f n → HasTwo f n → ¬ (IsSide (total f n))
+pub total_of_two : (f : ℕ → ℤ) (n : ℕ) → AreSides f n → HasTwo f n → ¬ (IsZeroOrOne (total f n))
 total_of_two f n sides t = no_side (total f n) (at_least_two f n t.c t.d sides t.positive t.ordered t.within t.at_c t.at_d)

@@ -2,7 +2,7 @@
 --
 -- IsPlanar     what is asked of points and segments on the grid
 -- IsAccepted   what is asked of a file
-use Rattle.std.specs.Prelude.{◌≡◌, ◌≢◌, ◌⊎◌, ℕ, ◌<◌, List, length, slice_index_or, All, Any, pos, negsuc, ℤ}
+use Rattle.std.specs.Prelude.{◌≡◌, ◌≢◌, ◌⊎◌, ℕ, ◌<◌, List, length, slice_index_or, All, Any, pos, ℤ}
 use Rattle.grid_geom.specs.declared.Point.{Point}
 use Rattle.grid_geom.specs.declared.RatPoint.{RatPoint}
 use Rattle.grid_geom.specs.declared.Edge.{Edge}
@@ -16,6 +16,7 @@ use Rattle.geom_check.specs.declared.kinds.Segment.{Segment}
 use Rattle.geom_check.specs.Shift.{FitsRow, IsShift}
 use Rattle.geom_check.specs.Placed.{points_of, segments_of}
 use Rattle.geom_check.specs.Boundary.{edges_of, boundary}
+use Rattle.geom_check.specs.declared.limits.TheConstants.{COARSEST}
 
 -- the points i and j, from 0, are at one place
 pub record AreTogether (points : List Point) (i j : ℕ) : Type 0 where
@@ -34,12 +35,12 @@ pub record AreTangled (edges : List Edge) (i j : ℕ) : Type 0 where
   pub tangled : (d : Edge) → DoEdgesTangle (slice_index_or edges i d) (slice_index_or edges j d)
 
 -- points have different places
-abbrev pub HasPlaces : List Point → Type 0
-HasPlaces points = (i j : ℕ) → ¬ AreTogether points i j
+abbrev pub ArePlacesDifferent : List Point → Type 0
+ArePlacesDifferent points = (i j : ℕ) → ¬ AreTogether points i j
 
 -- no segment has one domain, or the outside, on both sides
-abbrev pub HasTwoSides : Segment → Type 0
-HasTwoSides s = s.left ≢ s.right
+abbrev pub HasDifferentDomains : Segment → Type 0
+HasDifferentDomains s = s.left ≢ s.right
 
 -- a segment has two ends
 abbrev pub HasTwoEnds : Segment → Type 0
@@ -54,12 +55,12 @@ abbrev pub AreClosed : List Point → List Segment → Type 0
 AreClosed points segments = (domain : ℕ) → 0 < domain → IsClosed (boundary points domain segments)
 
 -- a winding number of a domain: 1 inside, and 0 outside
-abbrev pub IsSide : ℤ → Type 0
-IsSide n = (n ≡ pos 0) ⊎ (n ≡ pos 1)
+abbrev pub IsZeroOrOne : ℤ → Type 0
+IsZeroOrOne n = (n ≡ pos 0) ⊎ (n ≡ pos 1)
 
 -- at every place off all segments a domain has the winding number 0 or 1
-abbrev pub HasSides : List Point → List Segment → ℕ → Type 0
-HasSides points segments domain = (q : RatPoint) → IsRational q → IsOff q (edges_of points segments) → IsSide (wind q (boundary points domain segments))
+abbrev pub WindsAtMostOnce : List Point → List Segment → ℕ → Type 0
+WindsAtMostOnce points segments domain = (q : RatPoint) → IsRational q → IsOff q (edges_of points segments) → IsZeroOrOne (wind q (boundary points domain segments))
 
 -- two domains have the winding number 1 at a place
 pub record DoOverlap (points : List Point) (segments : List Segment) (q : RatPoint) : Type 0 where
@@ -73,12 +74,12 @@ pub record DoOverlap (points : List Point) (segments : List Segment) (q : RatPoi
 -- points and segments on the grid are those of a planar map: segments share nothing but ends, and each place off them
 -- is in one domain or in none
 pub record IsPlanar (points : List Point) (segments : List Segment) : Type 0 where
-  pub places : HasPlaces points
-  pub sides : All HasTwoSides segments
+  pub places : ArePlacesDifferent points
+  pub sides : All HasDifferentDomains segments
   pub ends : All HasTwoEnds segments
   pub apart : AreApart (edges_of points segments)
   pub closed : AreClosed points segments
-  pub winding : (domain : ℕ) → 0 < domain → HasSides points segments domain
+  pub winding : (domain : ℕ) → 0 < domain → WindsAtMostOnce points segments domain
   pub separate : (q : RatPoint) → IsRational q → IsOff q (edges_of points segments) → ¬ DoOverlap points segments q
 
 -- a segment with a domain on some side
@@ -89,5 +90,5 @@ NamesDomain row = (0 < row.left) ⊎ (0 < row.right)
 -- grid, at the file's shift, points and segments are those of a planar map
 pub record IsAccepted (raw : RawGeometry) : Type 0 where
   pub domain : Any NamesDomain raw.segments
-  pub fits : All (FitsRow (negsuc 5)) raw.points
+  pub fits : All (FitsRow COARSEST) raw.points
   pub planar : (shift : ℤ) → IsShift shift raw.points → IsPlanar (points_of shift raw.points) (segments_of shift raw)

@@ -3,14 +3,16 @@
 -- point_at    the point of a row
 -- edge_of     a segment as an edge, from its first point to its last
 -- edges_of    the edges of all segments, in their order
+-- back        an edge reversed, of wind_law
 -- boundary    the edges round a domain, each with the domain on its left
 use Rattle.std.specs.Prelude.{ℕ, ◌-◌, ◌<◌, ◌≤◌, ◌==◌, Bool, cond, true, false, List, [], ◌∷◌, map, slice_index_or, pos}
 use Rattle.grid_geom.specs.declared.Point.{Point}
 use Rattle.grid_geom.specs.declared.Edge.{Edge}
 use Rattle.grid_geom.specs.Closed.{same_point}
-use Rattle.grid_geom.specs.Bounds.{IsOnGrid}
+pub use Rattle.wind_law.specs.Chains.{back}
+pub use Rattle.wind_law.specs.Grid.{IsEdgeOnGrid}
 use Rattle.geom_check.specs.declared.kinds.Segment.{Segment}
-use Rattle.geom_check.specs.declared.kinds.TheConstants.{MOST_BOUNDARY_NUMBER}
+use Rattle.geom_check.specs.declared.limits.TheConstants.{MOST_DOMAINS, MOST_BOUNDARY_NUMBER}
 
 -- the point of a row, from 1; past the last row the origin stands
 abbrev pub point_at : List Point → ℕ → Point
@@ -24,19 +26,14 @@ edge_of points s = record { a = point_at points s.p; b = point_at points s.q }
 abbrev pub edges_of : List Point → List Segment → List Edge
 edges_of points segments = map (edge_of points) segments
 
--- both ends are grid points
-pub record IsEdgeOnGrid (e : Edge) : Type 0 where
-  pub a : IsOnGrid e.a
-  pub b : IsOnGrid e.b
-
 -- both ends are rows of a list of this length, and the domains are at most 64
 pub record IsSegmentOf (count : ℕ) (s : Segment) : Type 0 where
   pub p_least : 1 ≤ s.p
   pub p_greatest : s.p ≤ count
   pub q_least : 1 ≤ s.q
   pub q_greatest : s.q ≤ count
-  pub left : s.left ≤ 64
-  pub right : s.right ≤ 64
+  pub left : s.left ≤ MOST_DOMAINS
+  pub right : s.right ≤ MOST_DOMAINS
 
 -- a boundary number: from 1 to the greatest that a file may give
 abbrev pub IsBoundaryNumber : ℕ → Type 0
@@ -49,9 +46,6 @@ departures_of e w = cond (same_point e.a w) 1 0
 abbrev pub arrivals_of : Edge → Point → ℕ
 arrivals_of e w = cond (same_point e.b w) 1 0
 
-abbrev pub reversed : Edge → Edge
-reversed e = record { a = e.b; b = e.a }
-
 -- the edge in front, where it is wanted
 abbrev pub with_edge : Bool → Edge → List Edge → List Edge
 with_edge true e es = e ∷ es
@@ -61,4 +55,4 @@ with_edge false e es = es
 abbrev pub boundary : List Point → ℕ → List Segment → List Edge
 boundary points domain [] = []
 boundary points domain (s ∷ ss) =
-    with_edge (s.left == domain) (edge_of points s) (with_edge (s.right == domain) (reversed (edge_of points s)) (boundary points domain ss))
+    with_edge (s.left == domain) (edge_of points s) (with_edge (s.right == domain) (back (edge_of points s)) (boundary points domain ss))

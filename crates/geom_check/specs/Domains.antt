@@ -9,7 +9,7 @@ use Rattle.std.specs.List.{flat_map, All}
 use Rattle.std.specs.Ordering.{nat_cmp}
 use Rattle.std.specs.BTreeSet.{insert_key}
 use Rattle.geom_check.specs.declared.kinds.Segment.{Segment}
-use Rattle.geom_check.specs.declared.boundaries.TheConstants.{MOST_DOMAINS}
+use Rattle.geom_check.specs.declared.limits.TheConstants.{MOST_DOMAINS}
 
 -- the numbers on the two sides of each segment
 abbrev pub sides_of : List Segment → List ℕ

@@ -14,7 +14,9 @@ use Rattle.grid_geom.specs.Plane.{IsRational}
 use Rattle.geom_check.specs.declared.risers.Riser.{Riser}
 use Rattle.geom_check.specs.declared.risers.Passing.{Passing}
 use Rattle.geom_check.specs.RiserOrder.{over, under, IsPassing, IsKey}
-use Rattle.geom_check.specs.Strips.{IsSamePlace}
+use Rattle.wind_law.specs.Near.{IsSamePlace}
+use Rattle.geom_check.specs.declared.limits.TheConstants.{WIDTH}
+use Rattle.grid_geom.specs.declared.TheConstants.{GRID}
 
 -- the greatest common divisor of a and b: it divides both, and is a sum of multiples of them
 pub record IsDivisor (a b g : ℕ) : Type 0 where
@@ -28,7 +30,7 @@ pub record IsDivisor (a b g : ℕ) : Type 0 where
 
 -- the place that is x/k grid steps to the right of the lower left corner of the grid, and y/k above it
 abbrev pub from_corner : ℕ → ℕ → ℕ → RatPoint
-from_corner x y k = record { x = pos x -ℤ pos 1048576 *ℤ pos k; y = pos y -ℤ pos 1048576 *ℤ pos k; k = pos k }
+from_corner x y k = record { x = pos x -ℤ GRID *ℤ pos k; y = pos y -ℤ GRID *ℤ pos k; k = pos k }
 
 -- q stands for the place of r, by the least k
 pub record IsLeastAt (r q : RatPoint) : Type 0 where
@@ -61,7 +63,7 @@ pub record IsGapEnd (low high : ℤ) (rs : List Riser) (count : ℕ) (left : Pas
 -- the middle between two risers at the height y/2
 abbrev pub middle : ℤ → Riser → Riser → RatPoint
 middle y r s = record {
-  x = over y r *ℤ under s +ℤ over y s *ℤ under r -ℤ pos 2097152 *ℤ (under r *ℤ under s);
+  x = over y r *ℤ under s +ℤ over y s *ℤ under r -ℤ pos WIDTH *ℤ (under r *ℤ under s);
   y = y *ℤ (under r *ℤ under s);
   k = pos 2 *ℤ (under r *ℤ under s);
 }

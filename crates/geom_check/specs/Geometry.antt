@@ -6,7 +6,7 @@
 -- IsLength       a length from 1 to the greatest that a size may have
 -- IsGeometry     what holds of each accepted geometry
 -- IsGeometryOf   the geometry of a file
-use Rattle.std.specs.Prelude.{◌≡◌, ℕ, ◌≤◌, ◌==◌, if◌then◌else◌, List, [], ◌∷◌, length, map, All, Option, Some, None, ℤ, pos, negsuc, ◌≤ℤ◌}
+use Rattle.std.specs.Prelude.{◌≡◌, ℕ, ◌≤◌, ◌==◌, if◌then◌else◌, List, [], ◌∷◌, length, map, All, Option, Some, None, ℤ, ◌≤ℤ◌}
 use Rattle.grid_geom.specs.declared.Point.{Point}
 use Rattle.grid_geom.specs.declared.TheConstants.{LONGEST}
 use Rattle.grid_geom.specs.Bounds.{IsOnGrid}
@@ -21,6 +21,7 @@ use Rattle.geom_check.specs.Placed.{place_of, points_of, segments_of}
 use Rattle.geom_check.specs.Boundary.{IsSegmentOf, IsBoundaryNumber}
 use Rattle.geom_check.specs.Domains.{domain_numbers}
 use Rattle.geom_check.specs.Accepted.{IsPlanar, IsAccepted}
+use Rattle.geom_check.specs.declared.limits.TheConstants.{MOST_ROWS, COARSEST, FINEST}
 
 -- points and segments on the grid, the points that bound the sizes around them, and the domains, rising
 pub record PlanarMap : Type 0 where
@@ -29,6 +30,11 @@ pub record PlanarMap : Type 0 where
   pub segments : List Segment
   pub flagged : List Source
   pub domains : List Domain
+
+-- the map of these parts
+abbrev pub map_of : ℤ → List Point → List Segment → List Source → List Domain → PlanarMap
+map_of shift points segments flagged domains =
+    record { shift = shift; points = points; segments = segments; flagged = flagged; domains = domains }
 
 -- a source in front, where the point has a size
 abbrev pub with_source : Point → Option ℕ → List Source → List Source
@@ -75,12 +81,12 @@ pub record IsSource (s : Source) : Type 0 where
 -- what holds of each geometry that was accepted
 pub record IsGeometry (g : PlanarMap) : Type 0 where
   pub planar : IsPlanar g.points g.segments
-  pub shift_least : negsuc 5 ≤ℤ g.shift
-  pub shift_greatest : g.shift ≤ℤ pos 8
+  pub shift_least : COARSEST ≤ℤ g.shift
+  pub shift_greatest : g.shift ≤ℤ FINEST
   pub on_grid : All IsOnGrid g.points
   pub joined : All (IsSegmentOf (length g.points)) g.segments
-  pub few_points : length g.points ≤ 4096
-  pub few_segments : length g.segments ≤ 4096
+  pub few_points : length g.points ≤ MOST_ROWS
+  pub few_segments : length g.segments ≤ MOST_ROWS
   pub boundary_numbers : All (λ s. IsBoundaryNumber s.bc) g.segments
   pub segment_sizes : All (λ s. IsLengthIfAny s.maxh) g.segments
   pub sources : All IsSource g.flagged

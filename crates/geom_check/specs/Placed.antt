@@ -16,6 +16,7 @@ use Rattle.geom_check.specs.declared.kinds.Segment.{Segment}
 use Rattle.geom_check.specs.declared.placing.Placed.{Placed}
 use Rattle.geom_check.specs.Boundary.{IsBoundaryNumber}
 use Rattle.geom_check.specs.Shift.{grid_at, size_at, FitsRow, IsShift}
+use Rattle.geom_check.specs.declared.limits.TheConstants.{MOST_ROWS, MOST_DOMAINS, COARSEST}
 
 -- below 10 ^ 30 in absolute value, with a scale from -99 to 99
 pub record IsReadableNumber (v : Dec) : Type 0 where
@@ -43,16 +44,16 @@ pub record IsReadableSegment (points : List PointRow) (row : SegmentRow) : Type 
   pub q_known : IsSome (row_in points row.q)
   pub bc : IfSome row.bc IsBoundaryNumber
   pub maxh : IsReadableIfAny row.maxh
-  pub left : row.left ≤ 64
-  pub right : row.right ≤ 64
+  pub left : row.left ≤ MOST_DOMAINS
+  pub right : row.right ≤ MOST_DOMAINS
 
 abbrev pub IsReadableMaterial : MaterialRow → Type 0
 IsReadableMaterial row = IsReadableIfAny row.maxh
 
 -- numbers within a reader's ranges, and segments that name points of the file
 pub record IsReadable (raw : RawGeometry) : Type 0 where
-  pub few_points : length raw.points ≤ 4096
-  pub few_segments : length raw.segments ≤ 4096
+  pub few_points : length raw.points ≤ MOST_ROWS
+  pub few_segments : length raw.segments ≤ MOST_ROWS
   pub points : All IsReadablePoint raw.points
   pub segments : All (IsReadableSegment raw.points) raw.segments
   pub materials : All IsReadableMaterial raw.materials
@@ -91,7 +92,7 @@ segments_of shift raw = segments_from shift raw.points 1 raw.segments
 
 -- everything on the grid, at the finest shift
 pub record IsPlaced (raw : RawGeometry) (placed : Placed) : Type 0 where
-  pub coarsest : All (FitsRow (negsuc 5)) raw.points
+  pub coarsest : All (FitsRow COARSEST) raw.points
   pub shift : IsShift placed.shift raw.points
   pub points : placed.points ≡ points_of placed.shift raw.points
   pub segments : placed.segments ≡ segments_of placed.shift raw

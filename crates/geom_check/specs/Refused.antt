@@ -1,8 +1,11 @@
 -- Why a geometry is refused: what holds before the first fault, and the fault at its least place.
 --
--- IsLeast, IsLeastPair   the least place, from 1, of a fault
--- IsRefusal              what each refusal says of the file
-use Rattle.std.specs.Prelude.{◌≡◌, ◌⊎◌, ℕ, ◌+◌, ◌<◌, ◌≤◌, List, length, slice_index_or, All, Any, ℤ, negsuc}
+-- IsFirstFailing, IsLeastPair   the least place, from 1, of a fault
+-- IsLeastOpen, IsLeastSide      the least domain with a fault, and where
+-- PastPlaces .. PastWindings    what holds where the checks before have passed
+-- IsFault                       the first fault of points and segments on the grid
+-- IsRefusal                     what each refusal says of the file
+use Rattle.std.specs.Prelude.{◌≡◌, ◌⊎◌, ℕ, ◌+◌, ◌<◌, ◌≤◌, List, length, slice_index_or, All, Any, ℤ}
 use Rattle.grid_geom.specs.declared.Point.{Point}
 use Rattle.grid_geom.specs.declared.RatPoint.{RatPoint}
 use Rattle.grid_geom.specs.Closed.{IsClosed, leaving, arriving}
@@ -14,8 +17,9 @@ use Rattle.geom_check.specs.declared.refusal.GeomRefusal.TheVariants.{NoDomain, 
 use Rattle.geom_check.specs.Shift.{FitsRow, IsShift}
 use Rattle.geom_check.specs.Placed.{points_of, segments_of}
 use Rattle.geom_check.specs.Boundary.{edges_of, boundary}
-use Rattle.geom_check.specs.Accepted.{AreTogether, AreTangled, HasPlaces, HasTwoSides, HasTwoEnds, AreApart, AreClosed, HasSides, IsSide, DoOverlap, NamesDomain}
+use Rattle.geom_check.specs.Accepted.{AreTogether, AreTangled, ArePlacesDifferent, HasDifferentDomains, HasTwoEnds, AreApart, AreClosed, WindsAtMostOnce, IsZeroOrOne, DoOverlap, NamesDomain}
 use Rattle.geom_check.specs.Strips.{IsWitness}
+use Rattle.geom_check.specs.declared.limits.TheConstants.{COARSEST}
 
 -- n is the number, from 1, of the first item of a list at which P fails
 pub record IsFirstFailing {A : Type 0} (P : A → Type 0) (items : List A) (n : ℕ) : Type 0 where
@@ -52,45 +56,77 @@ pub record IsLeastOpen (points : List Point) (segments : List Segment) (point do
 -- the least domain with a winding number other than 0 and 1, and where it has one
 pub record IsLeastSide (points : List Point) (segments : List Segment) (domain : ℕ) (at : RatPoint) : Type 0 where
   pub positive : 0 < domain
-  pub witness : IsWitness (λ q. ¬ IsSide (wind q (boundary points domain segments))) (edges_of points segments) at
-  pub least : (d : ℕ) → 0 < d → d < domain → HasSides points segments d
+  pub witness : IsWitness (λ q. ¬ IsZeroOrOne (wind q (boundary points domain segments))) (edges_of points segments) at
+  pub least : (d : ℕ) → 0 < d → d < domain → WindsAtMostOnce points segments d
+
+-- ---- what holds where the checks before a fault have passed, and P: each asks one fact more than the one before it
+-- points have different places
+abbrev pub PastPlaces : List Point → Type 0 → Type 0
+PastPlaces points P = ArePlacesDifferent points × P
+
+-- and no segment has one domain on both sides
+abbrev pub PastDomains : List Point → List Segment → Type 0 → Type 0
+PastDomains points segments P = PastPlaces points (All HasDifferentDomains segments × P)
+
+-- and each segment has two ends
+abbrev pub PastEnds : List Point → List Segment → Type 0 → Type 0
+PastEnds points segments P = PastDomains points segments (All HasTwoEnds segments × P)
+
+-- and no two segments share more than an end
+abbrev pub PastPairs : List Point → List Segment → Type 0 → Type 0
+PastPairs points segments P = PastEnds points segments (AreApart (edges_of points segments) × P)
+
+-- and boundaries are closed
+abbrev pub PastBoundaries : List Point → List Segment → Type 0 → Type 0
+PastBoundaries points segments P = PastPairs points segments (AreClosed points segments × P)
+
+-- and each domain winds at most once
+abbrev pub PastWindings : List Point → List Segment → Type 0 → Type 0
+PastWindings points segments P =
+    PastBoundaries points segments (((d : ℕ) → 0 < d → WindsAtMostOnce points segments d) × P)
 
 -- the first fault of points and segments on the grid
 abbrev pub IsFault : GeomRefusal → List Point → List Segment → Type 0
 IsFault NoDomain points segments = ⊥
 IsFault (TooLarge point) points segments = ⊥
 IsFault (SamePlace i j) points segments = IsLeastPair (AreTogether points) i j
-IsFault (SameSides segment) points segments = HasPlaces points × IsFirstFailing HasTwoSides segments segment
-IsFault (NoLength segment) points segments = HasPlaces points × All HasTwoSides segments × IsFirstFailing HasTwoEnds segments segment
-IsFault (Meet i j) points segments = HasPlaces points × All HasTwoSides segments × All HasTwoEnds segments × IsLeastPair (AreTangled (edges_of points segments)) i j
-IsFault (OpenAt point domain) points segments = HasPlaces points × All HasTwoSides segments × All HasTwoEnds segments × AreApart (edges_of points segments) × IsLeastOpen points segments point domain
-IsFault (Side domain at) points segments = HasPlaces points × All HasTwoSides segments × All HasTwoEnds segments × AreApart (edges_of points segments) × AreClosed points segments × IsLeastSide points segments domain at
-IsFault (Overlap at) points segments = HasPlaces points × All HasTwoSides segments × All HasTwoEnds segments × AreApart (edges_of points segments) × AreClosed points segments × ((d : ℕ) → 0 < d → HasSides points segments d) × IsWitness (DoOverlap points segments) (edges_of points segments) at
+IsFault (SameSides segment) points segments =
+    PastPlaces points (IsFirstFailing HasDifferentDomains segments segment)
+IsFault (NoLength segment) points segments =
+    PastDomains points segments (IsFirstFailing HasTwoEnds segments segment)
+IsFault (Meet i j) points segments =
+    PastEnds points segments (IsLeastPair (AreTangled (edges_of points segments)) i j)
+IsFault (OpenAt point domain) points segments =
+    PastPairs points segments (IsLeastOpen points segments point domain)
+IsFault (Side domain at) points segments =
+    PastBoundaries points segments (IsLeastSide points segments domain at)
+IsFault (Overlap at) points segments =
+    PastWindings points segments (IsWitness (DoOverlap points segments) (edges_of points segments) at)
 IsFault Memory points segments = ⊥
 
 -- a fault on the grid, at the file's shift
 pub record IsPlacedFault (raw : RawGeometry) (refusal : GeomRefusal) : Type 0 where
   pub domain : Any NamesDomain raw.segments
-  pub fits : All (FitsRow (negsuc 5)) raw.points
+  pub fits : All (FitsRow COARSEST) raw.points
   pub fault : (shift : ℤ) → IsShift shift raw.points → IsFault refusal (points_of shift raw.points) (segments_of shift raw)
 
 -- `place` refuses for a coordinate that doesn't fit, or for want of memory
 abbrev pub IsPlaceRefusal : RawGeometry → GeomRefusal → Type 0
-IsPlaceRefusal raw (TooLarge point) = IsFirstFailing (FitsRow (negsuc 5)) raw.points point
+IsPlaceRefusal raw (TooLarge point) = IsFirstFailing (FitsRow COARSEST) raw.points point
 IsPlaceRefusal raw Memory = Unit {0}
 IsPlaceRefusal raw _ = ⊥
 
 -- the first fault of a file
 abbrev pub IsRefusal : RawGeometry → GeomRefusal → Type 0
 IsRefusal raw NoDomain = ¬ (Any NamesDomain raw.segments)
-IsRefusal raw (TooLarge point) = Any NamesDomain raw.segments × IsFirstFailing (FitsRow (negsuc 5)) raw.points point
+IsRefusal raw (TooLarge point) = Any NamesDomain raw.segments × IsFirstFailing (FitsRow COARSEST) raw.points point
 IsRefusal raw Memory = Unit {0}
 IsRefusal raw refusal = IsPlacedFault raw refusal
 
 -- the first fault of winding numbers
 abbrev pub IsWindingFault : List Point → List Segment → GeomRefusal → Type 0
 IsWindingFault points segments (Side domain at) = IsLeastSide points segments domain at
-IsWindingFault points segments (Overlap at) = ((d : ℕ) → 0 < d → HasSides points segments d) × IsWitness (DoOverlap points segments) (edges_of points segments) at
+IsWindingFault points segments (Overlap at) = ((d : ℕ) → 0 < d → WindsAtMostOnce points segments d) × IsWitness (DoOverlap points segments) (edges_of points segments) at
 IsWindingFault points segments Memory = Unit {0}
 IsWindingFault points segments _ = ⊥
 

@@ -3,7 +3,7 @@
 -- over, under   where a riser crosses a height: over / under grid steps from the left end of the grid
 -- IsFree        two risers share no inner point
 -- IsOrder       the risers that pass a strip, from left to right
-use Rattle.std.specs.Prelude.{◌≡◌, ◌≢◌, true, not, ◌==◌, negsuc, slice_index, slice_index_or, ℕ, ◌-◌, ◌*◌, ◌/◌, ◌<◌, ◌≤◌, ◌⊎◌, Bool, ◌+◌, List, length, take, filter, sum_by, All, AllPairs, Contains, pos, ℤ, ◌+ℤ◌, ◌-ℤ◌, ◌*ℤ◌, ◌<ℤ◌, ◌≤ℤ◌}
+use Rattle.std.specs.Prelude.{◌≡◌, ◌≢◌, true, not, ◌==◌, slice_index, slice_index_or, ℕ, ◌-◌, ◌*◌, ◌/◌, ◌<◌, ◌≤◌, ◌⊎◌, Bool, ◌+◌, List, length, take, filter, sum_by, All, AllPairs, Contains, pos, ℤ, ◌+ℤ◌, ◌-ℤ◌, ◌*ℤ◌, ◌<ℤ◌, ◌≤ℤ◌, neg_ℤ}
 use Rattle.std.specs.List.Sorted.{IsNonDecreasingBy}
 use Rattle.grid_geom.specs.declared.RatPoint.{RatPoint}
 use Rattle.grid_geom.specs.Bounds.{IsOnGrid, IsWithin}
@@ -15,13 +15,14 @@ use Rattle.geom_check.specs.declared.risers.Riser.{Riser}
 use Rattle.geom_check.specs.declared.risers.Passing.{Passing}
 use Rattle.grid_geom.specs.Plane.{orient_rat, IsRational}
 use Rattle.geom_check.specs.Risers.{passes, one_if, is_beside, winding_of}
-use Rattle.geom_check.specs.Accepted.{IsSide}
+use Rattle.geom_check.specs.Accepted.{IsZeroOrOne}
 use Rattle.geom_check.specs.Strips.{IsHeight}
 use Rattle.grid_geom.specs.declared.Edge.{Edge}
+use Rattle.geom_check.specs.declared.limits.TheConstants.{WIDTH, MOST_UNDER, PARTS}
 
 -- the place of a riser at the height y/2, from the left end of the grid: `over` / `under`
 abbrev pub over : ℤ → Riser → ℤ
-over y r = (r.a.x +ℤ pos 1048576) *ℤ (pos 2 *ℤ r.b.y -ℤ y) +ℤ (r.b.x +ℤ pos 1048576) *ℤ (y -ℤ pos 2 *ℤ r.a.y)
+over y r = (r.a.x +ℤ GRID) *ℤ (pos 2 *ℤ r.b.y -ℤ y) +ℤ (r.b.x +ℤ GRID) *ℤ (y -ℤ pos 2 *ℤ r.a.y)
 
 abbrev pub under : Riser → ℤ
 under r = pos 2 *ℤ (r.b.y -ℤ r.a.y)
@@ -55,15 +56,15 @@ pub record IsPassing (low high : ℤ) (r : Riser) : Type 0 where
   pub from_low : r.a.y ≤ℤ low
   pub to_high : high ≤ℤ r.b.y
 
--- the key of a riser: its place in parts of 2 ^ 46, rounded downwards
+-- the key of a riser: its place in parts of a grid step, rounded downwards
 pub record IsKey (y : ℤ) (r : Riser) (key : ℕ) : Type 0 where
   pub over_is : ℕ
   pub under_is : ℕ
   pub same_over : pos over_is ≡ over y r
   pub same_under : pos under_is ≡ under r
   pub positive : 0 < under_is
-  pub small : under_is ≤ 4194304
-  pub key_is : key ≡ over_is * 70368744177664 / under_is
+  pub small : under_is ≤ MOST_UNDER
+  pub key_is : key ≡ over_is * PARTS / under_is
 
 -- both ends are grid points
 pub record IsRiserOnGrid (r : Riser) : Type 0 where
@@ -104,20 +105,20 @@ rises chosen ps = pos (sum_by (east_of chosen) ps) -ℤ pos (sum_by (west_of cho
 -- the first place, from the left, at which these risers make a winding number other than 0 and 1: that to the right of item j
 pub record IsFaultyAfter (chosen : ℕ → Bool) (items : List Passing) (j : ℕ) : Type 0 where
   pub in_list : j < length items
-  pub fault : ¬ IsSide (rises chosen (take (j + 1) items))
-  pub first : (i : ℕ) → i ≤ j → IsSide (rises chosen (take i items))
+  pub fault : ¬ IsZeroOrOne (rises chosen (take (j + 1) items))
+  pub first : (i : ℕ) → i ≤ j → IsZeroOrOne (rises chosen (take i items))
 
 -- q is on no riser
 abbrev pub IsOffRisers : RatPoint → List Riser → Type 0
 IsOffRisers q rs = All (λ r. is_beside q r ≡ true → orient_rat r.a r.b q ≢ pos 0) rs
 
--- a place far to the left of the grid, at the height y/2
+-- a place to the left of the grid, one step from it, at the height y/2
 abbrev pub far : ℤ → RatPoint
-far y = record { x = negsuc 2097153; y = y; k = pos 2 }
+far y = record { x = neg_ℤ (pos 2 *ℤ (GRID +ℤ pos 1)); y = y; k = pos 2 }
 
 -- the chosen domains have a winding number of 0 or 1 everywhere in the strip
 abbrev pub IsSound : ℤ → ℤ → (ℕ → Bool) → List Riser → Type 0
-IsSound low high chosen rs = (q : RatPoint) → IsInStrip low high q → IsOffRisers q rs → IsSide (winding_of chosen q rs)
+IsSound low high chosen rs = (q : RatPoint) → IsInStrip low high q → IsOffRisers q rs → IsZeroOrOne (winding_of chosen q rs)
 
 -- the first of the risers that pass a strip on whose right the winding number of the chosen domains is neither 0 nor 1
 pub record IsStripFault (low high : ℤ) (chosen : ℕ → Bool) (rs : List Riser) (left : Passing) : Type 0 where
@@ -131,7 +132,7 @@ pub record IsStripFault (low high : ℤ) (chosen : ℕ → Bool) (rs : List Rise
 pub record HasLevel (levels : List ℕ) (y : ℤ) : Type 0 where
   pub index : ℕ
   pub in_list : index < length levels
-  pub level : pos (slice_index levels index) ≡ y +ℤ pos 1048576
+  pub level : pos (slice_index levels index) ≡ y +ℤ GRID
 
 -- the heights of both ends of a riser are among the levels
 pub record HasLevels (levels : List ℕ) (r : Riser) : Type 0 where
@@ -140,7 +141,7 @@ pub record HasLevels (levels : List ℕ) (r : Riser) : Type 0 where
 
 -- the height of a level
 abbrev pub height_of : List ℕ → ℕ → ℤ
-height_of levels i = pos (slice_index levels i) -ℤ pos 1048576
+height_of levels i = pos (slice_index levels i) -ℤ GRID
 
 -- the winding number of the chosen domains changes at the riser
 abbrev pub is_border : (ℕ → Bool) → Riser → Bool
@@ -148,7 +149,7 @@ is_border chosen r = not (one_if (chosen r.west) == one_if (chosen r.east))
 
 -- the chosen domains have a winding number of 0 or 1 at every place off the risers
 abbrev pub IsSoundAll : (ℕ → Bool) → List Riser → Type 0
-IsSoundAll chosen rs = (q : RatPoint) → IsRational q → IsOffRisers q rs → IsSide (winding_of chosen q rs)
+IsSoundAll chosen rs = (q : RatPoint) → IsRational q → IsOffRisers q rs → IsZeroOrOne (winding_of chosen q rs)
 
 -- the lowest strip with a fault, and the first riser of it with one on its right
 pub record IsLowestFault (levels : List ℕ) (chosen : ℕ → Bool) (rs : List Riser) (strip : Strip) (left : Passing) : Type 0 where
@@ -162,7 +163,7 @@ pub record IsLowestFault (levels : List ℕ) (chosen : ℕ → Bool) (rs : List 
 
 -- the levels of both ends of each of the first edges, and of nothing else
 pub record IsLevelsOf (edges : List Edge) (count : ℕ) (levels : List ℕ) : Type 0 where
-  pub starts : (k : ℕ) (d : Edge) (n : ℕ) → k < count → pos n ≡ (slice_index_or edges k d).a.y +ℤ pos 1048576 → Contains levels n
-  pub ends : (k : ℕ) (d : Edge) (n : ℕ) → k < count → pos n ≡ (slice_index_or edges k d).b.y +ℤ pos 1048576 → Contains levels n
-  pub heights : All (λ n. IsHeight edges (pos n -ℤ pos 1048576)) levels
-  pub small : All (λ n. n ≤ 2097152) levels
+  pub starts : (k : ℕ) (d : Edge) (n : ℕ) → k < count → pos n ≡ (slice_index_or edges k d).a.y +ℤ GRID → Contains levels n
+  pub ends : (k : ℕ) (d : Edge) (n : ℕ) → k < count → pos n ≡ (slice_index_or edges k d).b.y +ℤ GRID → Contains levels n
+  pub heights : All (λ n. IsHeight edges (pos n -ℤ GRID)) levels
+  pub small : All (λ n. n ≤ WIDTH) levels

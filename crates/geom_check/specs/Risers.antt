@@ -3,7 +3,8 @@
 -- risers_of     the segments that aren't level, turned upwards
 -- covers        a riser has a place on its left, at its heights
 -- wests, easts  how many risers with a place on their left have a chosen domain to their west, to their east
--- passing_of    a riser with the place where it crosses the middle height of a strip
+-- winding_of    the winding number of the chosen domains, by the risers
+-- passes        a riser goes from one side of a strip to the other
 use Rattle.std.specs.Prelude.{◌≡◌, ◌⊎◌, All, Any, ◌<ℤ◌, ℕ, ◌==◌, nat_lt, Bool, true, false, cond, List, [], ◌∷◌, sum_by, Option, Some, None, ℤ, pos, ◌-ℤ◌, ◌*ℤ◌}
 use lib.Signed.{lt_z, le_z}
 use Rattle.grid_geom.specs.declared.Point.{Point}

@@ -9,6 +9,8 @@ use Rattle.std.specs.Prelude.{ℕ, zero, suc, ◌+◌, ◌*◌, ◌/◌, ◌^◌
 use Rattle.word_scan.specs.declared.decimals.Dec.{Dec}
 use Rattle.geom_check.specs.declared.scale.Scale.{Scale}
 use Rattle.in2d_reader.specs.declared.geometry.PointRow.{PointRow}
+use Rattle.geom_check.specs.declared.limits.TheConstants.{COARSEST, FINEST, MOST_UNITS}
+use Rattle.grid_geom.specs.declared.TheConstants.{LONGEST}
 
 -- 10 to the power z where z is not negative, else 1
 abbrev pub tens : ℤ → ℕ
@@ -25,7 +27,7 @@ magnitude_at shift v = nearest (unsigned_abs v.digits * tens (v.scale +ℤ shift
 
 -- at most 2 ^ 14 units
 abbrev pub FitsAt : ℤ → Dec → Type 0
-FitsAt shift v = magnitude_at shift v ≤ 16384
+FitsAt shift v = magnitude_at shift v ≤ MOST_UNITS
 
 -- a magnitude with the sign of a number
 abbrev pub signed_as : ℤ → ℕ → ℤ
@@ -38,7 +40,7 @@ grid_at shift v = signed_as v.digits (64 * magnitude_at shift v)
 
 -- 64 * |v| * 10 ^ shift, rounded downwards, at least 1 and at most 2 ^ 21
 abbrev pub length_at : ℤ → Dec → ℕ
-length_at shift v = max 1 (min 2097152 (64 * unsigned_abs v.digits * tens (v.scale +ℤ shift) / tens (neg_ℤ (v.scale +ℤ shift))))
+length_at shift v = max 1 (min LONGEST (64 * unsigned_abs v.digits * tens (v.scale +ℤ shift) / tens (neg_ℤ (v.scale +ℤ shift))))
 
 -- a greatest size in grid steps: one of zero or below has no effect
 abbrev pub size_of_digits : ℤ → ℕ → Option ℕ
@@ -52,8 +54,8 @@ size_at shift (Some v) = size_of_digits v.digits (length_at shift v)
 
 -- a shift from -6 to 8
 pub record IsScale (scale : Scale) : Type 0 where
-  pub least : negsuc 5 ≤ℤ scale.shift
-  pub greatest : scale.shift ≤ℤ pos 8
+  pub least : COARSEST ≤ℤ scale.shift
+  pub greatest : scale.shift ≤ℤ FINEST
 
 -- both coordinates of a point fit
 pub record FitsRow (shift : ℤ) (row : PointRow) : Type 0 where
@@ -62,7 +64,7 @@ pub record FitsRow (shift : ℤ) (row : PointRow) : Type 0 where
 
 -- the greatest number from -6 to 8 at which each coordinate of each point fits
 pub record IsShift (shift : ℤ) (rows : List PointRow) : Type 0 where
-  pub least : negsuc 5 ≤ℤ shift
-  pub greatest : shift ≤ℤ pos 8
+  pub least : COARSEST ≤ℤ shift
+  pub greatest : shift ≤ℤ FINEST
   pub fits : All (FitsRow shift) rows
-  pub no_greater : (d : ℤ) → shift <ℤ d → d ≤ℤ pos 8 → ¬ (All (FitsRow d) rows)
+  pub no_greater : (d : ℤ) → shift <ℤ d → d ≤ℤ FINEST → ¬ (All (FitsRow d) rows)

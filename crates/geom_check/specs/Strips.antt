@@ -9,6 +9,7 @@ use Rattle.std.specs.Prelude.{◌≡◌, ◌⊎◌, List, Any, pos, ℤ, ◌+ℤ
 use Rattle.grid_geom.specs.declared.RatPoint.{RatPoint}
 use Rattle.grid_geom.specs.declared.Edge.{Edge}
 use Rattle.grid_geom.specs.Plane.{orient_rat, IsRational}
+use Rattle.wind_law.specs.Near.{IsSamePlace}
 
 -- some edge ends at this height
 abbrev pub IsHeight : List Edge → ℤ → Type 0
@@ -62,11 +63,6 @@ pub record IsGapMiddle (edges : List Edge) (m : RatPoint) : Type 0 where
   pub gap : IsGap edges low high left right
   pub height : IsMiddleHeight low high m
   pub between : IsBetween m left right
-
--- r is at the place of q
-pub record IsSamePlace (q r : RatPoint) : Type 0 where
-  pub x : q.x *ℤ r.k ≡ r.x *ℤ q.k
-  pub y : q.y *ℤ r.k ≡ r.y *ℤ q.k
 
 -- r is lower than q, or at its height and to its left
 abbrev pub IsBefore : RatPoint → RatPoint → Type 0

@@ -1,21 +1,20 @@
 // The sides and ends of segments, and the boundaries of domains.
 ghost use Rattle.std.specs.Prelude.{◌≡◌, ◌↔◌, ◌≤◌, IsTrue, length, All, IfOk, IfSome, IfNone};
 ghost use Rattle.grid_geom.specs.Closed.{leaving, arriving};
-ghost use Rattle.geom_check.specs.Accepted.{HasTwoSides, HasTwoEnds, AreClosed};
+ghost use Rattle.geom_check.specs.Accepted.{HasDifferentDomains, HasTwoEnds, AreClosed};
 ghost use Rattle.geom_check.specs.Boundary.{boundary, edges_of, departures_of, arrivals_of, IsSegmentOf};
 ghost use Rattle.geom_check.specs.Refused.{IsFirstFailing, IsLeastOpen};
 
 use crate::kinds::Segment;
+use crate::limits::MOST_DOMAINS;
 use grid_geom::{Edge, Point};
 use std::alloc::{AllocError as OutOfMemory, Global};
-
-/// The greatest number of a domain.
-pub const MOST_DOMAINS: u32 = 64;
+use wind_law::closed;
 
 /// The number, from 1, of the first segment with one domain on both sides.
 pub fn same_sides(segments: &[Segment]) -> Option<u64>
-    ensures found { IfSome result (λ n. IsFirstFailing HasTwoSides segments.now n) }
-    ensures none { IfNone result (All HasTwoSides segments.now) }
+    ensures found { IfSome result (λ n. IsFirstFailing HasDifferentDomains segments.now n) }
+    ensures none { IfNone result (All HasDifferentDomains segments.now) }
 {
     for (i, segment) in segments.iter().enumerate() {
         if segment.left == segment.right {
@@ -110,9 +109,11 @@ fn is_balanced(edges: &[Edge], at: &Point) -> bool
 }
 
 /// The number, from 1, of the first point that edges leave more or less often than they arrive.
-pub fn open_at(points: &[Point], edges: &[Edge]) -> Option<u64>
-    ensures found { IfSome result (λ n. IsFirstFailing (λ p. leaving p edges.now ≡ arriving p edges.now) points.now n) }
-    ensures none { IfNone result (All (λ p. leaving p edges.now ≡ arriving p edges.now) points.now) }
+fn open_at(points: &[Point], edges: &[Edge]) -> Option<u64>
+    ensures found { IfSome result (λ n. IsFirstFailing (λ p. leaving p edges.now
+        ≡ arriving p edges.now) points.now n) }
+    ensures none { IfNone result (All (λ p. leaving p edges.now
+        ≡ arriving p edges.now) points.now) }
 {
     for (i, point) in points.iter().enumerate() {
         if !is_balanced(edges, point) {
@@ -122,19 +123,34 @@ pub fn open_at(points: &[Point], edges: &[Edge]) -> Option<u64>
     None
 }
 
-/// The least domain whose boundary is open, and the number, from 1, of the first point at which it is.
+/// The same, if there is such a point. That there is none is found by sorting the edges' ends.
+fn open_point(alloc: Global, points: &[Point], edges: &[Edge]) -> Result<Option<u64>, OutOfMemory>
+    ensures found { IfOk result (λ found. IfSome found (λ n. IsFirstFailing
+        (λ p. leaving p edges.now ≡ arriving p edges.now) points.now n)) }
+    ensures none { IfOk result (λ found. IfNone found
+        (All (λ p. leaving p edges.now ≡ arriving p edges.now) points.now)) }
+{
+    if closed(alloc, edges)? {
+        return Ok(None);
+    }
+    Ok(open_at(points, edges))
+}
+
+/// The least domain whose boundary is open, and the number, from 1, of the first point at which it
+/// is.
 pub fn first_open(
     alloc: Global,
     points: &[Point],
     segments: &[Segment],
 ) -> Result<Option<(u64, u32)>, OutOfMemory>
     requires { All (IsSegmentOf (length points.now)) segments.now }
-    ensures found { IfOk result (λ found. IfSome found (λ fault. IsLeastOpen points.now segments.now fault.0 fault.1)) }
+    ensures found { IfOk result (λ found. IfSome found
+        (λ fault. IsLeastOpen points.now segments.now fault.0 fault.1)) }
     ensures none { IfOk result (λ found. IfNone found (AreClosed points.now segments.now)) }
 {
     for domain in 1..MOST_DOMAINS + 1 {
         let edges = round(alloc, points, segments, domain)?;
-        if let Some(point) = open_at(points, &edges) {
+        if let Some(point) = open_point(alloc, points, &edges)? {
             return Ok(Some((point, domain)));
         }
     }

@@ -5,7 +5,7 @@ ghost use Rattle.grid_geom.specs.Bounds.{IsOnGrid};
 ghost use Rattle.geom_check.specs.Shift.{IsScale};
 ghost use Rattle.geom_check.specs.Placed.{IsReadable, IsReadablePoint, points_of};
 ghost use Rattle.geom_check.specs.Boundary.{IsSegmentOf};
-ghost use Rattle.geom_check.specs.Accepted.{NamesDomain, HasPlaces, HasTwoSides, HasTwoEnds, IsPlanar};
+ghost use Rattle.geom_check.specs.Accepted.{NamesDomain, ArePlacesDifferent, HasDifferentDomains, HasTwoEnds, IsPlanar};
 ghost use Rattle.geom_check.specs.Geometry.{IsGeometryOf, sources_of};
 ghost use Rattle.geom_check.specs.Refused.{IsRefusal, IsFaultOrMemory};
 
@@ -13,10 +13,12 @@ use crate::boundaries::{edges, first_open, no_length, same_sides};
 use crate::domains::domains;
 use crate::geometry::Geometry;
 use crate::kinds::{Domains, Segment, Source, Sources};
-use crate::pairs::{tangled, together};
+use crate::limits::MOST_ROWS;
+use crate::places::first_together;
 use crate::placing::{Placed, place};
 use crate::refusal::GeomRefusal;
 use crate::scale::Scale;
+use crate::spans::first_tangled;
 use crate::windings::check_windings;
 use grid_geom::Point;
 use in2d_reader::{PointRow, RawGeometry, SegmentRow};
@@ -30,13 +32,14 @@ fn names_domain(rows: &[SegmentRow]) -> bool
 }
 
 /// The first fault of points, and of segments by themselves.
-fn check_rows(points: &[Point], segments: &[Segment]) -> Result<(), GeomRefusal>
-    ensures places { OnOk result (HasPlaces points.now) }
-    ensures sides { OnOk result (All HasTwoSides segments.now) }
+fn check_rows(alloc: Global, points: &[Point], segments: &[Segment]) -> Result<(), GeomRefusal>
+    requires { All IsOnGrid points.now }
+    ensures places { OnOk result (ArePlacesDifferent points.now) }
+    ensures sides { OnOk result (All HasDifferentDomains segments.now) }
     ensures ends { OnOk result (All HasTwoEnds segments.now) }
     ensures refused { IfErr result (IsFaultOrMemory points.now segments.now) }
 {
-    if let Some((i, j)) = together(points) {
+    if let Some((i, j)) = first_together(alloc, points)? {
         return Err(GeomRefusal::SamePlace { i, j });
     }
     if let Some(segment) = same_sides(segments) {
@@ -52,13 +55,13 @@ fn check_rows(points: &[Point], segments: &[Segment]) -> Result<(), GeomRefusal>
 fn check_grid(alloc: Global, points: &[Point], segments: &[Segment]) -> Result<(), GeomRefusal>
     requires on_grid { All IsOnGrid points.now }
     requires joined { All (IsSegmentOf (length points.now)) segments.now }
-    requires few { length segments.now ≤ 4096 }
+    requires few { length segments.now ≤ MOST_ROWS }
     ensures planar { OnOk result (IsPlanar points.now segments.now) }
     ensures refused { IfErr result (IsFaultOrMemory points.now segments.now) }
 {
-    check_rows(points, segments)?;
+    check_rows(alloc, points, segments)?;
     let edges = edges(alloc, points, segments)?;
-    if let Some((i, j)) = tangled(&edges) {
+    if let Some((i, j)) = first_tangled(alloc, &edges)? {
         return Err(GeomRefusal::Meet { i, j });
     }
     if let Some((point, domain)) = first_open(alloc, points, segments)? {

@@ -1,12 +1,13 @@
 // The gaps of the strips: the middle of the first one with a fault.
 ghost use Rattle.std.specs.Prelude.{◌≡◌, ℕ, ℤ, ◌<◌, ◌≤◌, true, false, All, AllPairs, Contains, Option, length, IfOk, IfSome, IfNone, MatchOption, pos, ◌+ℤ◌, ◌-ℤ◌, ◌*ℤ◌, ◌^◌};
 ghost use Rattle.std.specs.List.Sorted.{IsStrictlyIncreasing};
-ghost use Rattle.geom_check.specs.Accepted.{IsSide};
+ghost use Rattle.geom_check.specs.Accepted.{IsZeroOrOne};
 ghost use Rattle.geom_check.specs.Gaps.{IsDivisor, IsLeastAt, HasEnd, IsGapEnd, IsGapAfter, from_corner, middle};
 ghost use Rattle.geom_check.specs.Risers.{is_chosen, winding_of, AreRisersOf};
 ghost use Rattle.geom_check.specs.RiserOrder.{IsRiserOnGrid, IsStripOnGrid, IsPassing, IsKey, IsFree, IsSoundAll, HasLevels, IsLevelsOf, far};
 ghost use Rattle.geom_check.specs.Strips.{IsWitness};
 
+use crate::limits::{MOST_ACROSS, MOST_COMMON, MOST_UNDER, WIDTH};
 use crate::risers::{Passing, Riser};
 use crate::strips::{Strip, borders, does_pass, lowest_fault, passing_at, place_in};
 use grid_geom::{Edge, GRID, RatPoint};
@@ -19,21 +20,23 @@ fn divisor(a: u128, b: u128) -> u128
     if b == 0 { a } else { divisor(b, a % b) }
 }
 
-/// A coordinate counted from the middle of the grid: that of a place `n` / `k` grid steps from its end.
+/// A coordinate counted from the middle of the grid: that of a place `n` / `k` grid steps from its
+/// end.
 fn from_middle(n: u128, k: u128) -> i128
-    requires n_small { n ≤ 2 ^ 68 }
-    requires k_small { k ≤ 2 ^ 45 }
-    ensures { result ≡ pos n -ℤ pos 1048576 *ℤ pos k }
+    requires n_small { n ≤ MOST_ACROSS }
+    requires k_small { k ≤ MOST_COMMON }
+    ensures { result ≡ pos n -ℤ GRID *ℤ pos k }
 {
     n as i128 - GRID as i128 * k as i128
 }
 
-/// The place x / k grid steps to the right of the lower left corner of the grid and y / k above it, with the least denominator.
+/// The place x / k grid steps to the right of the lower left corner of the grid and y / k above it,
+/// with the least denominator.
 fn reduced(x: u128, y: u128, k: u128) -> RatPoint
     requires positive { 0 < k }
-    requires x_small { x ≤ 2 ^ 68 }
-    requires y_small { y ≤ 2 ^ 68 }
-    requires k_small { k ≤ 2 ^ 45 }
+    requires x_small { x ≤ MOST_ACROSS }
+    requires y_small { y ≤ MOST_ACROSS }
+    requires k_small { k ≤ MOST_COMMON }
     ensures { IsLeastAt (from_corner x y k) result }
 {
     let common = divisor(divisor(x, y), k);
@@ -48,8 +51,8 @@ fn reduced(x: u128, y: u128, k: u128) -> RatPoint
 /// Twice how far the middle height of a strip is above the bottom of the grid.
 fn height(strip: &Strip) -> u64
     requires { IsStripOnGrid strip.now }
-    ensures value { pos result ≡ strip.now.low +ℤ strip.now.high +ℤ pos 2097152 }
-    ensures small { result ≤ 4194304 }
+    ensures value { pos result ≡ strip.now.low +ℤ strip.now.high +ℤ pos WIDTH }
+    ensures small { result ≤ MOST_UNDER }
 {
     (strip.low + strip.high + 2 * GRID) as u64
 }
@@ -98,7 +101,8 @@ fn gap_end(strip: &Strip, risers: &[Riser], left: &Passing) -> Option<Passing>
     nearest
 }
 
-/// The middle of the gap to the right of a riser that passes a strip, where one passes it further right.
+/// The middle of the gap to the right of a riser that passes a strip, where one passes it further
+/// right.
 fn gap_middle(strip: &Strip, risers: &[Riser], left: &Passing) -> RatPoint
     requires strip { IsStripOnGrid strip.now }
     requires risers { All IsRiserOnGrid risers.now }
@@ -113,8 +117,8 @@ fn gap_middle(strip: &Strip, risers: &[Riser], left: &Passing) -> RatPoint
     }
 }
 
-/// The middle of the leftmost gap of the lowest strip in which the winding number of the chosen domains is neither 0 nor 1, with
-/// the least denominator.
+/// The middle of the leftmost gap of the lowest strip in which the winding number of the chosen
+/// domains is neither 0 nor 1, with the least denominator.
 pub fn first_fault(
     alloc: Global,
     edges: &[Edge],
@@ -129,7 +133,8 @@ pub fn first_fault(
     requires free { AllPairs IsFree risers.now }
     requires of_edges { AreRisersOf edges.now risers.now }
     requires balanced { (y : ℤ) → winding_of (is_chosen chosen) (far y) risers.now ≡ pos 0 }
-    ensures found { IfOk result (λ found. IfSome found (IsWitness (λ q. ¬ IsSide (winding_of (is_chosen chosen) q risers.now)) edges.now)) }
+    ensures found { IfOk result (λ found. IfSome found (IsWitness
+        (λ q. ¬ IsZeroOrOne (winding_of (is_chosen chosen) q risers.now)) edges.now)) }
     ensures none { IfOk result (λ found. IfNone found (IsSoundAll (is_chosen chosen) risers.now)) }
 {
     let borders = borders(alloc, risers, chosen)?;

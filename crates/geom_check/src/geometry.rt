@@ -1,7 +1,7 @@
 // An accepted geometry.
 
 ghost use Rattle.std.specs.Prelude.{◌≡◌};
-ghost use Rattle.geom_check.specs.Geometry.{PlanarMap, IsGeometry};
+ghost use Rattle.geom_check.specs.Geometry.{PlanarMap, IsGeometry, map_of};
 
 use crate::kinds::{Domain, Domains, Segment, Segments, Source, Sources};
 use grid_geom::{Point, Points};
@@ -18,13 +18,13 @@ pub struct Geometry {
 }
 
 impl Model for Geometry {
-    ghost use Rattle.geom_check.specs.Geometry.{PlanarMap, IsGeometry};
+    ghost use Rattle.geom_check.specs.Geometry.{PlanarMap, IsGeometry, map_of};
 
     ghost Value = { PlanarMap };
 
-    ghost view = { λ g. record { shift = g.shift; points = g.points; segments = g.segments; flagged = g.flagged; domains = g.domains } };
+    ghost view = { λ g. map_of g.shift g.points g.segments g.flagged g.domains };
 
-    ghost invariant = { λ g. IsGeometry (record { shift = g.shift; points = g.points; segments = g.segments; flagged = g.flagged; domains = g.domains }) };
+    ghost invariant = { λ g. IsGeometry (map_of g.shift g.points g.segments g.flagged g.domains) };
 }
 
 impl Geometry {
@@ -36,8 +36,8 @@ impl Geometry {
         flagged: Sources,
         domains: Domains,
     ) -> Geometry
-        requires { IsGeometry (record { shift = shift; points = points; segments = segments; flagged = flagged; domains = domains }) }
-        ensures { result ≡ record { shift = shift; points = points; segments = segments; flagged = flagged; domains = domains } }
+        requires { IsGeometry (map_of shift points segments flagged domains) }
+        ensures { result ≡ map_of shift points segments flagged domains }
     {
         Geometry {
             shift,

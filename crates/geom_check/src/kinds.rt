@@ -1,14 +1,8 @@
-// The parts of a geometry on the grid, and their list types. A contract sees each list as the list of its items.
-ghost use Rattle.std.specs.Prelude.{◌≡◌, List};
-ghost use Rattle.geom_check.specs.declared.kinds.Segment.{Segment as SegmentValue};
-ghost use Rattle.geom_check.specs.declared.kinds.Source.{Source as SourceValue};
-ghost use Rattle.geom_check.specs.declared.kinds.Domain.{Domain as DomainValue};
+// The parts of a geometry on the grid, and their list types. A contract sees each list as the list
+// of its items.
 
 use grid_geom::Point;
-use std::marker::Model;
-
-/// The greatest boundary number.
-pub const MOST_BOUNDARY_NUMBER: u32 = 999_999;
+use list_of::List;
 
 /// A directed segment with a domain on each side, of which 0 is the outside.
 #[derive(Clone, Copy, Debug, PartialEq, Eq)]
@@ -41,106 +35,10 @@ pub struct Domain {
 }
 
 /// A list of segments.
-#[derive(Debug, Drop)]
-pub struct Segments {
-    items: Vec<Segment>,
-}
-
-impl Model for Segments {
-    ghost Value = { List SegmentValue };
-
-    ghost view = { λ s. s.items.items };
-}
-
-impl Segments {
-    /// The list of these segments. Takes no memory.
-    pub fn from_vec(items: Vec<Segment>) -> Segments
-        ensures { result ≡ items.items }
-    {
-        Segments { items }
-    }
-
-    /// The segments in their order.
-    pub fn as_slice(&self) -> &[Segment]
-        ensures { result.now ≡ self.now }
-    {
-        &self.items
-    }
-
-    /// The segments, given back as the vector that they came in. Takes no memory.
-    pub fn into_vec(self) -> Vec<Segment>
-        ensures { result.items ≡ self }
-    {
-        self.items
-    }
-}
+pub type Segments = List<Segment>;
 
 /// A list of sources.
-#[derive(Debug, Drop)]
-pub struct Sources {
-    items: Vec<Source>,
-}
-
-impl Model for Sources {
-    ghost Value = { List SourceValue };
-
-    ghost view = { λ s. s.items.items };
-}
-
-impl Sources {
-    /// The list of these sources. Takes no memory.
-    pub fn from_vec(items: Vec<Source>) -> Sources
-        ensures { result ≡ items.items }
-    {
-        Sources { items }
-    }
-
-    /// The sources in their order.
-    pub fn as_slice(&self) -> &[Source]
-        ensures { result.now ≡ self.now }
-    {
-        &self.items
-    }
-
-    /// The sources, given back as the vector that they came in. Takes no memory.
-    pub fn into_vec(self) -> Vec<Source>
-        ensures { result.items ≡ self }
-    {
-        self.items
-    }
-}
+pub type Sources = List<Source>;
 
 /// A list of domains.
-#[derive(Debug, Drop)]
-pub struct Domains {
-    items: Vec<Domain>,
-}
-
-impl Model for Domains {
-    ghost Value = { List DomainValue };
-
-    ghost view = { λ s. s.items.items };
-}
-
-impl Domains {
-    /// The list of these domains. Takes no memory.
-    pub fn from_vec(items: Vec<Domain>) -> Domains
-        ensures { result ≡ items.items }
-    {
-        Domains { items }
-    }
-
-    /// The domains in their order.
-    pub fn as_slice(&self) -> &[Domain]
-        ensures { result.now ≡ self.now }
-    {
-        &self.items
-    }
-
-    /// The domains, given back as the vector that they came in. Takes no memory.
-    pub fn into_vec(self) -> Vec<Domain>
-        ensures { result.items ≡ self }
-    {
-        self.items
-    }
-}
+pub type Domains = List<Domain>;

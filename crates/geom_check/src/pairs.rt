@@ -1,7 +1,7 @@
 // Pairs of points at one place, and pairs of edges that share more than a common end.
 ghost use Rattle.std.specs.Prelude.{◌≡◌, ◌≢◌, ◌<◌, ℕ, length, All, IfSome, IfNone};
-ghost use Rattle.geom_check.specs.Accepted.{AreTogether, AreTangled, HasPlaces, AreApart};
-ghost use Rattle.geom_check.specs.Boundary.{IsEdgeOnGrid};
+ghost use Rattle.geom_check.specs.Accepted.{AreTogether, AreTangled, ArePlacesDifferent, AreApart};
+ghost use Rattle.wind_law.specs.Grid.{IsEdgeOnGrid};
 ghost use Rattle.geom_check.specs.Refused.{IsLeastPair, IsFirstPartner};
 
 use grid_geom::{Edge, Point, tangle};
@@ -23,7 +23,7 @@ fn twin(points: &[Point], i: usize) -> Option<usize>
 /// The numbers, from 1, of the least pair of points at one place.
 pub fn together(points: &[Point]) -> Option<(u64, u64)>
     ensures found { IfSome result (λ pair. IsLeastPair (AreTogether points.now) pair.0 pair.1) }
-    ensures none { IfNone result (HasPlaces points.now) }
+    ensures none { IfNone result (ArePlacesDifferent points.now) }
 {
     for i in 0..points.len() {
         if let Some(j) = twin(points, i) {

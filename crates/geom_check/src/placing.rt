@@ -7,6 +7,7 @@ ghost use Rattle.geom_check.specs.Placed.{IsReadable, IsReadablePoint, IsReadabl
 ghost use Rattle.geom_check.specs.Refused.{IsFirstFailing, IsPlaceRefusal};
 
 use crate::kinds::{Segment, Segments};
+use crate::limits::{COARSEST, FINEST, MOST_ROWS};
 use crate::refusal::GeomRefusal;
 use crate::scale::Scale;
 use grid_geom::{Point, Points};
@@ -29,21 +30,21 @@ fn too_large(scale: &Scale, rows: &[PointRow]) -> Option<u64>
     None
 }
 
-/// The finest scale at which each point fits.
+/// The finest scale at which each point fits: the coarsest, unless a finer one does.
 fn finest(rows: &[PointRow]) -> Scale
     requires readable { All IsReadablePoint rows.now }
-    requires coarsest { All (FitsRow (negsuc 5)) rows.now }
+    requires coarsest { All (FitsRow COARSEST) rows.now }
     ensures { IsShift result.shift rows.now }
 {
-    for down in 0..14u32 {
+    for down in 0..(FINEST - COARSEST) as u32 {
         let scale = Scale {
-            shift: 8 - down as i32,
+            shift: FINEST - down as i32,
         };
         if too_large(&scale, rows).is_none() {
             return scale;
         }
     }
-    Scale { shift: -6 }
+    Scale { shift: COARSEST }
 }
 
 /// The points on the grid.
@@ -62,7 +63,8 @@ fn points(alloc: Global, scale: &Scale, rows: &[PointRow]) -> Result<Vec<Point>,
 
 /// The row, from 1, of each point's number.
 fn row_numbers(alloc: Global, points: &[PointRow]) -> Result<BTreeMap<u32, usize>, OutOfMemory>
-    ensures { IfOk result (λ map. (number : ℕ) → tree.get nat_cmp map number ≡ row_in points.now number) }
+    ensures { IfOk result (λ map. (number : ℕ) → tree.get nat_cmp map number
+        ≡ row_in points.now number) }
 {
     let mut rows = BTreeMap::new(alloc);
     for i in (0..points.len()).rev() {
@@ -78,7 +80,7 @@ fn segments(
     points: &[PointRow],
     rows: &[SegmentRow],
 ) -> Result<Vec<Segment>, OutOfMemory>
-    requires few { length rows.now ≤ 4096 }
+    requires few { length rows.now ≤ MOST_ROWS }
     requires readable { All (IsReadableSegment points.now) rows.now }
     requires scale { IsScale scale.now }
     ensures { IfOk result (λ v. v.items ≡ segments_from scale.now.shift points.now 1 rows.now) }
@@ -118,7 +120,7 @@ pub fn place(alloc: Global, raw: &RawGeometry) -> Result<Placed, GeomRefusal>
     ensures refused { IfErr result (λ refusal. IsPlaceRefusal raw.now refusal) }
 {
     let rows = raw.points.as_slice();
-    if let Some(point) = too_large(&Scale { shift: -6 }, rows) {
+    if let Some(point) = too_large(&Scale { shift: COARSEST }, rows) {
         return Err(GeomRefusal::TooLarge { point });
     }
     let scale = finest(rows);

@@ -4,7 +4,7 @@ ghost use Rattle.std.specs.List.{list_any};
 ghost use Rattle.geom_check.specs.Boundary.{IsBoundaryNumber};
 ghost use Rattle.geom_check.specs.Placed.{IsReadable, IsReadableNumber, IsReadableIfAny, IsReadablePoint, IsReadableSegment, IsReadableMaterial, row_in};
 
-use crate::kinds::MOST_BOUNDARY_NUMBER;
+use crate::limits::{MOST_BOUNDARY_NUMBER, MOST_DOMAINS, MOST_ROWS};
 use in2d_reader::{MaterialRow, PointRow, RawGeometry, SegmentRow};
 use word_scan::Dec;
 
@@ -35,7 +35,7 @@ fn has_number(points: &[PointRow], number: u32) -> bool
     points.iter().any(|row| row.number == number)
 }
 
-#[tactic(auto, using(crate::proofs::KnownRows::row_is_known))]
+#[tactic(auto, using(crate::proofs::Rows::row_is_known))]
 fn is_known(points: &[PointRow], number: u32) -> bool
     ensures { IsTrue result → IsSome (row_in points.now number) }
 {
@@ -58,8 +58,8 @@ fn is_readable_segment(points: &[PointRow], row: &SegmentRow) -> bool
         && is_known(points, row.q)
         && is_boundary_number(row.bc)
         && is_readable_if_any(&row.maxh)
-        && row.left <= 64
-        && row.right <= 64
+        && row.left <= MOST_DOMAINS
+        && row.right <= MOST_DOMAINS
 }
 
 fn are_readable_points(rows: &[PointRow]) -> bool
@@ -85,8 +85,8 @@ pub fn is_readable(raw: &RawGeometry) -> bool
 {
     let points = raw.points.as_slice();
     let segments = raw.segments.as_slice();
-    points.len() <= 4096
-        && segments.len() <= 4096
+    points.len() <= MOST_ROWS
+        && segments.len() <= MOST_ROWS
         && are_readable_points(points)
         && are_readable_segments(points, segments)
         && are_readable_materials(raw.materials.as_slice())

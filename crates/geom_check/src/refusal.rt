@@ -5,7 +5,8 @@ ghost use Rattle.geom_check.specs.declared.refusal.GeomRefusal.TheVariants.{Memo
 use grid_geom::RatPoint;
 use std::alloc::AllocError;
 
-/// The first fault of a geometry, in the order of these variants. Rows, segments and domains are numbered from 1.
+/// The first fault of a geometry, in the order of these variants. Rows, segments and domains are
+/// numbered from 1.
 #[derive(Clone, Copy, Debug, PartialEq, Eq)]
 pub enum GeomRefusal {
     /// No segment names a domain above 0.

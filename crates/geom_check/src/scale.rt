@@ -3,12 +3,10 @@ ghost use Rattle.std.specs.Prelude.{◌≡◌, ◌+◌, ◌*◌, ◌/◌, ◌^�
 ghost use Rattle.geom_check.specs.Shift.{IsScale, magnitude_at, nearest, grid_at, length_at, size_at, FitsAt, FitsRow};
 ghost use Rattle.geom_check.specs.Placed.{IsReadableNumber, IsReadableIfAny, IsReadablePoint, place_of};
 
+use crate::limits::MOST_UNITS;
 use grid_geom::{LONGEST, Point};
 use in2d_reader::PointRow;
 use word_scan::Dec;
-
-/// The greatest absolute value of a coordinate, in units of 64 grid steps.
-const MOST_UNITS: u128 = 16_384;
 
 /// A unit is 10 ^ -`shift` of a file's lengths, and has 64 grid steps.
 #[derive(Clone, Copy, Debug, PartialEq, Eq)]
@@ -20,8 +18,8 @@ pub struct Scale {
 fn grown(size: u128, exponent: u32) -> Option<u64>
     requires { size < 10 ^ 30 }
     ensures fits { IfSome result (λ n. n ≡ size * 10 ^ exponent) }
-    ensures small { IfSome result (λ n. n ≤ 16384) }
-    ensures too_large { IfNone result (16384 < size * 10 ^ exponent) }
+    ensures small { IfSome result (λ n. n ≤ MOST_UNITS) }
+    ensures too_large { IfNone result (MOST_UNITS < size * 10 ^ exponent) }
 {
     if size == 0 {
         return Some(0);
@@ -30,26 +28,27 @@ fn grown(size: u128, exponent: u32) -> Option<u64>
         return None;
     }
     let grown = size * 10u128.pow(exponent);
-    if grown > MOST_UNITS {
+    if grown > MOST_UNITS as u128 {
         None
     } else {
         Some(grown as u64)
     }
 }
 
-/// `size` / 10 ^ `exponent`, rounded to the nearest whole number, halves upwards, where that is at most `MOST_UNITS`.
+/// `size` / 10 ^ `exponent`, rounded to the nearest whole number, halves upwards, where that is at
+/// most `MOST_UNITS`.
 fn shrunk(size: u128, exponent: u32) -> Option<u64>
     requires { size < 10 ^ 30 }
     ensures fits { IfSome result (λ n. n ≡ nearest size (10 ^ exponent)) }
-    ensures small { IfSome result (λ n. n ≤ 16384) }
-    ensures too_large { IfNone result (16384 < nearest size (10 ^ exponent)) }
+    ensures small { IfSome result (λ n. n ≤ MOST_UNITS) }
+    ensures too_large { IfNone result (MOST_UNITS < nearest size (10 ^ exponent)) }
 {
     if exponent > 31 {
         return Some(0);
     }
     let divisor = 10u128.pow(exponent);
     let rounded = (2 * size + divisor) / (2 * divisor);
-    if rounded > MOST_UNITS {
+    if rounded > MOST_UNITS as u128 {
         None
     } else {
         Some(rounded as u64)
@@ -59,7 +58,7 @@ fn shrunk(size: u128, exponent: u32) -> Option<u64>
 /// 64 * `size` * 10 ^ `exponent`, at least 1 and at most `LONGEST`.
 fn long(size: u128, exponent: u32) -> u64
     requires { size < 10 ^ 30 }
-    ensures { result ≡ max 1 (min 2097152 (64 * size * 10 ^ exponent)) }
+    ensures { result ≡ max 1 (min LONGEST (64 * size * 10 ^ exponent)) }
 {
     if size == 0 {
         return 1;
@@ -73,7 +72,7 @@ fn long(size: u128, exponent: u32) -> u64
 /// 64 * `size` / 10 ^ `exponent`, rounded downwards, at least 1 and at most `LONGEST`.
 fn short(size: u128, exponent: u32) -> u64
     requires { size < 10 ^ 30 }
-    ensures { result ≡ max 1 (min 2097152 (64 * size / 10 ^ exponent)) }
+    ensures { result ≡ max 1 (min LONGEST (64 * size / 10 ^ exponent)) }
 {
     if exponent > 31 {
         return 1;
@@ -82,13 +81,14 @@ fn short(size: u128, exponent: u32) -> u64
 }
 
 impl Scale {
-    /// The absolute value of a number in units, rounded half away from zero, where that is at most `MOST_UNITS`.
+    /// The absolute value of a number in units, rounded half away from zero, where that is at most
+    /// `MOST_UNITS`.
     fn magnitude(&self, v: &Dec) -> Option<u64>
         requires number { IsReadableNumber v.now }
         requires scale { IsScale self.now }
         ensures fits { IfSome result (λ n. n ≡ magnitude_at self.now.shift v.now) }
-        ensures small { IfSome result (λ n. n ≤ 16384) }
-        ensures too_large { IfNone result (16384 < magnitude_at self.now.shift v.now) }
+        ensures small { IfSome result (λ n. n ≤ MOST_UNITS) }
+        ensures too_large { IfNone result (MOST_UNITS < magnitude_at self.now.shift v.now) }
     {
         let size = v.digits.unsigned_abs();
         let exponent = v.scale + self.shift;
@@ -105,7 +105,7 @@ impl Scale {
         requires scale { IsScale self.now }
         ensures value { IfSome result (λ z. z ≡ grid_at self.now.shift v.now) }
         ensures fits { IfSome result (λ z. FitsAt self.now.shift v.now) }
-        ensures too_large { IfNone result (16384 < magnitude_at self.now.shift v.now) }
+        ensures too_large { IfNone result (MOST_UNITS < magnitude_at self.now.shift v.now) }
     {
         let steps = 64 * self.magnitude(v)? as i64;
         Some(if v.digits < 0 { -steps } else { steps })

@@ -1,21 +1,20 @@
 // Winding numbers in the gaps of the strips between the heights of points.
 //
-// In a strip no segment begins, ends or crosses another. So the segments that pass it have one order from left to right at all
-// its heights, and a winding number is the same all over a gap between two of them.
+// In a strip no segment begins, ends or crosses another. So the segments that pass it have one
+// order from left to right at all its heights, and a winding number is the same all over a gap
+// between two of them.
 ghost use Rattle.std.specs.Prelude.{◌≡◌, ℕ, ℤ, ◌-◌, ◌+◌, ◌<◌, ◌≤◌, IsTrue, All, AllPairs, map, filter, length, take, IfOk, IfSome, IfNone, pos, ◌+ℤ◌, ◌-ℤ◌, ◌*ℤ◌};
 ghost use Rattle.geom_check.specs.Risers.{passes, is_chosen, one_if, winding_of};
 ghost use Rattle.geom_check.specs.RiserOrder.{over, under, IsRiserOnGrid, IsStripOnGrid, IsPassing, IsKey, IsFree, IsOrder, IsFaultyAfter, IsClear, IsSound, IsStripFault, IsSoundAll, IsLowestFault, HasLevels, IsLevelsOf, height_of, is_border, far, rises};
-ghost use Rattle.geom_check.specs.Accepted.{IsSide};
+ghost use Rattle.geom_check.specs.Accepted.{IsZeroOrOne};
 ghost use Rattle.grid_geom.specs.Bounds.{IsOnGrid};
-ghost use Rattle.geom_check.specs.Boundary.{IsEdgeOnGrid};
+ghost use Rattle.wind_law.specs.Grid.{IsEdgeOnGrid};
 ghost use Rattle.std.specs.List.Sorted.{IsStrictlyIncreasing};
 
+use crate::limits::{MOST_OVER, MOST_ROWS, MOST_UNDER, PARTS, WIDTH};
 use crate::risers::{Passing, Riser};
 use grid_geom::{Edge, GRID, Point, RatPoint};
 use std::alloc::{AllocError as OutOfMemory, Global};
-
-/// 2 ^ 46: two places at which segments cross a height, as fractions with denominators up to 2 ^ 22, differ by more than one part of it.
-const PARTS: u128 = 70_368_744_177_664;
 
 /// The heights between `low` and `high`.
 #[derive(Clone, Copy, Debug, PartialEq, Eq)]
@@ -24,7 +23,8 @@ pub struct Strip {
     pub high: i64,
 }
 
-/// A riser's place at the middle height of a strip: `over` / `under` grid steps from the left end of the grid.
+/// A riser's place at the middle height of a strip: `over` / `under` grid steps from the left end
+/// of the grid.
 #[derive(Clone, Copy)]
 pub struct Fraction {
     pub over: u64,
@@ -32,10 +32,10 @@ pub struct Fraction {
 }
 
 /// How far a point is from the left end of the grid.
-fn from_left(p: &Point) -> u64
+pub fn from_left(p: &Point) -> u64
     requires { IsOnGrid p.now }
-    ensures value { pos result ≡ p.now.x +ℤ pos 1048576 }
-    ensures small { result ≤ 2097152 }
+    ensures value { pos result ≡ p.now.x +ℤ GRID }
+    ensures small { result ≤ WIDTH }
 {
     (p.x + GRID) as u64
 }
@@ -47,7 +47,7 @@ fn above(strip: &Strip, riser: &Riser) -> u64
     requires passing { IsPassing strip.now.low strip.now.high riser.now }
     ensures value { pos result ≡ pos 2 *ℤ riser.now.b.y -ℤ (strip.now.low +ℤ strip.now.high) }
     ensures positive { 0 < result }
-    ensures small { result ≤ 4194304 }
+    ensures small { result ≤ MOST_UNDER }
 {
     (2 * riser.b.y - (strip.low + strip.high)) as u64
 }
@@ -59,7 +59,7 @@ fn below(strip: &Strip, riser: &Riser) -> u64
     requires passing { IsPassing strip.now.low strip.now.high riser.now }
     ensures value { pos result ≡ (strip.now.low +ℤ strip.now.high) -ℤ pos 2 *ℤ riser.now.a.y }
     ensures positive { 0 < result }
-    ensures small { result ≤ 4194304 }
+    ensures small { result ≤ MOST_UNDER }
 {
     (strip.low + strip.high - 2 * riser.a.y) as u64
 }
@@ -71,8 +71,8 @@ pub fn place_in(strip: &Strip, riser: &Riser) -> Fraction
     requires passing { IsPassing strip.now.low strip.now.high riser.now }
     ensures over { pos result.over ≡ over (strip.now.low +ℤ strip.now.high) riser.now }
     ensures under { pos result.under ≡ under riser.now }
-    ensures over_small { result.over ≤ 17592186044416 }
-    ensures under_small { result.under ≤ 4194304 }
+    ensures over_small { result.over ≤ MOST_OVER }
+    ensures under_small { result.under ≤ MOST_UNDER }
     ensures positive { 0 < result.under }
 {
     let (above, below) = (above(strip, riser), below(strip, riser));
@@ -108,9 +108,12 @@ pub fn does_pass(strip: &Strip, riser: &Riser) -> bool
 fn gathered(alloc: Global, risers: &[Riser], strip: &Strip) -> Result<Vec<Passing>, OutOfMemory>
     requires strip { IsStripOnGrid strip.now }
     requires risers { All IsRiserOnGrid risers.now }
-    ensures passing { IfOk result (λ v. All (λ p. IsPassing strip.now.low strip.now.high p.riser) v.items) }
-    ensures keys { IfOk result (λ v. All (λ p. IsKey (strip.now.low +ℤ strip.now.high) p.riser p.key) v.items) }
-    ensures risers { IfOk result (λ v. map (λ p. p.riser) v.items ≡ filter (passes strip.now.low strip.now.high) risers.now) }
+    ensures passing { IfOk result (λ v. All
+        (λ p. IsPassing strip.now.low strip.now.high p.riser) v.items) }
+    ensures keys { IfOk result (λ v. All
+        (λ p. IsKey (strip.now.low +ℤ strip.now.high) p.riser p.key) v.items) }
+    ensures risers { IfOk result (λ v. map
+        (λ p. p.riser) v.items ≡ filter (passes strip.now.low strip.now.high) risers.now) }
 {
     let mut gathered = Vec::new(alloc);
     for riser in risers {
@@ -151,10 +154,12 @@ fn counts(chosen: Option<u32>, domain: u32) -> usize
     chooses(chosen, domain) as usize
 }
 
-/// The first of the risers, from left to right, on whose right the winding number of the chosen domains is neither 0 nor 1.
+/// The first of the risers, from left to right, on whose right the winding number of the chosen
+/// domains is neither 0 nor 1.
 fn faulty(passing: &[Passing], chosen: Option<u32>) -> Option<usize>
     ensures found { IfSome result (λ j. IsFaultyAfter (is_chosen chosen) passing.now j) }
-    ensures none { IfNone result ((i : ℕ) → i ≤ length passing.now → IsSide (rises (is_chosen chosen) (take i passing.now))) }
+    ensures none { IfNone result ((i : ℕ) → i ≤ length passing.now →
+        IsZeroOrOne (rises (is_chosen chosen) (take i passing.now))) }
 {
     let (mut easts, mut wests) = (0, 0);
     for (j, p) in passing.iter().enumerate() {
@@ -167,7 +172,8 @@ fn faulty(passing: &[Passing], chosen: Option<u32>) -> Option<usize>
     None
 }
 
-/// The first riser of a strip, from left to right, on whose right the winding number of the chosen domains is neither 0 nor 1.
+/// The first riser of a strip, from left to right, on whose right the winding number of the chosen
+/// domains is neither 0 nor 1.
 fn strip_fault(
     alloc: Global,
     risers: &[Riser],
@@ -179,8 +185,10 @@ fn strip_fault(
     requires free { AllPairs IsFree risers.now }
     requires clear { All (IsClear strip.now.low strip.now.high) risers.now }
     requires balanced { winding_of (is_chosen chosen) (far (strip.now.low +ℤ strip.now.high)) risers.now ≡ pos 0 }
-    ensures found { IfOk result (λ found. IfSome found (IsStripFault strip.now.low strip.now.high (is_chosen chosen) risers.now)) }
-    ensures none { IfOk result (λ found. IfNone found (IsSound strip.now.low strip.now.high (is_chosen chosen) risers.now)) }
+    ensures found { IfOk result
+        (λ found. IfSome found (IsStripFault strip.now.low strip.now.high (is_chosen chosen) risers.now)) }
+    ensures none { IfOk result
+        (λ found. IfNone found (IsSound strip.now.low strip.now.high (is_chosen chosen) risers.now)) }
 {
     let order = passing(alloc, risers, strip)?;
     match faulty(&order, chosen) {
@@ -210,7 +218,7 @@ pub fn borders(
 fn strip_at(levels: &[u64], i: usize) -> Strip
     requires in_list { i < length levels.now }
     requires first { 0 < i }
-    requires small { All (λ n. n ≤ 2097152) levels.now }
+    requires small { All (λ n. n ≤ WIDTH) levels.now }
     ensures low { result.low ≡ height_of levels.now (i - 1) }
     ensures high { result.high ≡ height_of levels.now i }
 {
@@ -228,12 +236,13 @@ pub fn lowest_fault(
     chosen: Option<u32>,
 ) -> Result<Option<(Strip, Passing)>, OutOfMemory>
     requires increasing { IsStrictlyIncreasing levels.now }
-    requires small { All (λ n. n ≤ 2097152) levels.now }
+    requires small { All (λ n. n ≤ WIDTH) levels.now }
     requires levels { All (HasLevels levels.now) risers.now }
     requires risers { All IsRiserOnGrid risers.now }
     requires free { AllPairs IsFree risers.now }
     requires balanced { (y : ℤ) → winding_of (is_chosen chosen) (far y) risers.now ≡ pos 0 }
-    ensures found { IfOk result (λ found. IfSome found (λ fault. IsLowestFault levels.now (is_chosen chosen) risers.now fault.0 fault.1)) }
+    ensures found { IfOk result (λ found. IfSome found
+        (λ fault. IsLowestFault levels.now (is_chosen chosen) risers.now fault.0 fault.1)) }
     ensures none { IfOk result (λ found. IfNone found (IsSoundAll (is_chosen chosen) risers.now)) }
 {
     for i in 1..levels.len() {
@@ -246,10 +255,10 @@ pub fn lowest_fault(
 }
 
 /// The height of a point above the bottom of the grid.
-fn level(p: &Point) -> u64
+pub fn level(p: &Point) -> u64
     requires { IsOnGrid p.now }
-    ensures value { pos result ≡ p.now.y +ℤ pos 1048576 }
-    ensures small { result ≤ 2097152 }
+    ensures value { pos result ≡ p.now.y +ℤ GRID }
+    ensures small { result ≤ WIDTH }
 {
     (p.y + GRID) as u64
 }
@@ -257,7 +266,7 @@ fn level(p: &Point) -> u64
 /// The heights of the ends of edges, in their order.
 fn all_levels(alloc: Global, edges: &[Edge]) -> Result<Vec<u64>, OutOfMemory>
     requires on_grid { All IsEdgeOnGrid edges.now }
-    requires few { length edges.now ≤ 4096 }
+    requires few { length edges.now ≤ MOST_ROWS }
     ensures { IfOk result (λ v. IsLevelsOf edges.now (length edges.now) v.items) }
 {
     let mut levels = Vec::with_capacity(alloc, 2 * edges.len())?;
@@ -271,7 +280,7 @@ fn all_levels(alloc: Global, edges: &[Edge]) -> Result<Vec<u64>, OutOfMemory>
 /// The different heights of the ends of edges above the bottom of the grid, rising.
 pub fn levels(alloc: Global, edges: &[Edge]) -> Result<Vec<u64>, OutOfMemory>
     requires on_grid { All IsEdgeOnGrid edges.now }
-    requires few { length edges.now ≤ 4096 }
+    requires few { length edges.now ≤ MOST_ROWS }
     ensures increasing { IfOk result (λ v. IsStrictlyIncreasing v.items) }
     ensures levels { IfOk result (λ v. IsLevelsOf edges.now (length edges.now) v.items) }
 {

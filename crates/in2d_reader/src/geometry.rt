@@ -1,8 +1,6 @@
 //! A geometry as its text writes it.
 
-ghost use Rattle.std.specs.Prelude.{◌≡◌, List};
-
-use std::marker::Model;
+use list_of::List;
 use word_scan::{Dec, Name};
 
 /// A geometry as its text writes it: the number of the file, and the rows in the order of the text.
@@ -43,95 +41,11 @@ pub struct MaterialRow {
     pub maxh: Option<Dec>,
 }
 
-/// A list of points.
-#[derive(Debug, Drop)]
-pub struct PointRows {
-    items: Vec<PointRow>,
-}
+/// Points in the order of the text.
+pub type PointRows = List<PointRow>;
 
-impl Model for PointRows {
-    ghost use Rattle.std.specs.Prelude.{List};
-    ghost use Rattle.in2d_reader.specs.declared.geometry.PointRow.{PointRow};
+/// Segments in the order of the text.
+pub type SegmentRows = List<SegmentRow>;
 
-    ghost Value = { List PointRow };
-
-    ghost view = { λ r. r.items.items };
-}
-
-impl PointRows {
-    /// The list of these points. Takes no memory.
-    pub fn from_vec(items: Vec<PointRow>) -> Self
-        ensures { result ≡ items.items }
-    {
-        PointRows { items }
-    }
-
-    /// The points in their order.
-    pub fn as_slice(&self) -> &[PointRow]
-        ensures { result.now ≡ self.now }
-    {
-        &self.items
-    }
-}
-
-/// A list of segments.
-#[derive(Debug, Drop)]
-pub struct SegmentRows {
-    items: Vec<SegmentRow>,
-}
-
-impl Model for SegmentRows {
-    ghost use Rattle.std.specs.Prelude.{List};
-    ghost use Rattle.in2d_reader.specs.declared.geometry.SegmentRow.{SegmentRow};
-
-    ghost Value = { List SegmentRow };
-
-    ghost view = { λ r. r.items.items };
-}
-
-impl SegmentRows {
-    /// The list of these segments. Takes no memory.
-    pub fn from_vec(items: Vec<SegmentRow>) -> Self
-        ensures { result ≡ items.items }
-    {
-        SegmentRows { items }
-    }
-
-    /// The segments in their order.
-    pub fn as_slice(&self) -> &[SegmentRow]
-        ensures { result.now ≡ self.now }
-    {
-        &self.items
-    }
-}
-
-/// A list of materials.
-#[derive(Debug, Drop)]
-pub struct MaterialRows {
-    items: Vec<MaterialRow>,
-}
-
-impl Model for MaterialRows {
-    ghost use Rattle.std.specs.Prelude.{List};
-    ghost use Rattle.in2d_reader.specs.declared.geometry.MaterialRow.{MaterialRow};
-
-    ghost Value = { List MaterialRow };
-
-    ghost view = { λ r. r.items.items };
-}
-
-impl MaterialRows {
-    /// The list of these materials. Takes no memory.
-    pub fn from_vec(items: Vec<MaterialRow>) -> Self
-        ensures { result ≡ items.items }
-    {
-        MaterialRows { items }
-    }
-
-    /// The materials in their order.
-    pub fn as_slice(&self) -> &[MaterialRow]
-        ensures { result.now ≡ self.now }
-    {
-        &self.items
-    }
-}
+/// Materials in the order of the text.
+pub type MaterialRows = List<MaterialRow>;

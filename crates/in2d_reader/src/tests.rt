@@ -1,4 +1,6 @@
 use super::*;
+use std::alloc::{AllocError, Global};
+use std::fmt::Write;
 use std::test::*;
 
 fn dec(digits: i128, scale: i32) -> Dec {
@@ -53,6 +55,36 @@ fn refusals(rt: HostRuntime) {
     assert!(rt; refusal(&rt, twice) == Some(In2dRefusal::NumberTwice { word: 7 }));
     let unknown = b"splinecurves2dv2 0 points 1 0 0 segments 1 0 2 1 1 1 0 2 1 2";
     assert!(rt; refusal(&rt, unknown) == Some(In2dRefusal::UnknownPoint { segment: 2 }));
+}
+
+/// The text of so many points with different numbers, and what follows them.
+fn points(alloc: Global, count: u64, rest: &str) -> Result<String, AllocError> {
+    let mut text = String::new(alloc);
+    text.push_str("splinecurves2dv2 0 points")?;
+    for number in 1..=count {
+        write!(text, " {number} 0 0")?;
+    }
+    text.push_str(rest)?;
+    Ok(text)
+}
+
+#[test]
+fn limits(rt: HostRuntime) -> Result<(), Fail> {
+    let too_many = |what: u64| Some(In2dRefusal::TooMany { what });
+    let past = points(rt.alloc(), 4_097, "")?;
+    assert!(rt; refusal(&rt, past.as_bytes()) == too_many(1));
+    let full = points(rt.alloc(), 4_096, " 1")?;
+    assert!(rt; refusal(&rt, full.as_bytes()) == too_many(1));
+    let twice = points(rt.alloc(), 4_095, " 1")?;
+    assert!(rt; refusal(&rt, twice.as_bytes()) == Some(In2dRefusal::NumberTwice { word: 12_289 }));
+    let mut segments = points(rt.alloc(), 1, " segments")?;
+    for _ in 0..4_096 {
+        segments.push_str(" 1 0 2 1 1")?;
+    }
+    assert!(rt; refusal(&rt, segments.as_bytes()) == None);
+    segments.push_str(" 1")?;
+    assert!(rt; refusal(&rt, segments.as_bytes()) == too_many(2));
+    Ok(())
 }
 
 #[test]

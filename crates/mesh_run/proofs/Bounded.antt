@@ -9,7 +9,7 @@ use Rattle.grid_geom.specs.declared.Point.{Point}
 use Rattle.grid_geom.specs.declared.Edge.{Edge}
 use Rattle.grid_geom.specs.Closed.{same_point}
 use Rattle.geom_check.specs.declared.kinds.Segment.{Segment}
-use Rattle.geom_check.specs.Boundary.{point_at, edge_of, reversed, with_edge, boundary}
+use Rattle.geom_check.specs.Boundary.{point_at, edge_of, back, with_edge, boundary}
 use Rattle.size_field.specs.declared.pieces.Piece.{Piece}
 use Rattle.mesh_run.specs.Boundary.{IsNumberTo, piece_boundary, piece_edge, segment_of, turned_to, whole_pieces, whole_pieces_from}
 use Rattle.mesh_run.specs.Numbering.{ends_of, is_among, number_in}
@@ -108,7 +108,7 @@ both_ends false true r h = refl
 both_ends false false r h = h
 
 turned_ends : (left right : Bool) (e : Edge) (rest : List Edge) (x : Point)
-    → is_among (ends_of (with_edge left e (with_edge right (reversed e) []) ++ rest)) x ≡ true → is_among (ends_of (e ∷ rest)) x ≡ true
+    → is_among (ends_of (with_edge left e (with_edge right (back e) []) ++ rest)) x ≡ true → is_among (ends_of (e ∷ rest)) x ≡ true
 turned_ends true true e rest x h = both_ends (same_point x e.a) (same_point x e.b) (is_among (ends_of rest) x) h
 turned_ends true false e rest x h = h
 turned_ends false true e rest x h = either_end (same_point x e.a) (same_point x e.b) (is_among (ends_of rest) x) h
@@ -142,7 +142,7 @@ with_edge_append true e es fs = refl
 with_edge_append false e es fs = refl
 
 turned_append : (left right : Bool) (e : Edge) (rest : List Edge)
-    → with_edge left e (with_edge right (reversed e) []) ++ rest ≡ with_edge left e (with_edge right (reversed e) rest)
+    → with_edge left e (with_edge right (back e) []) ++ rest ≡ with_edge left e (with_edge right (back e) rest)
 turned_append true true e rest = refl
 turned_append true false e rest = refl
 turned_append false true e rest = refl

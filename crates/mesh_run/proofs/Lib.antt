@@ -5,3 +5,5 @@ pub mod Bounded
 pub mod Ranges
 pub mod Named
 pub mod Ordered
+-- Openings whose segments are cut.
+pub mod CutFronts

@@ -9,6 +9,8 @@ use Rattle.mesh_run.specs.declared.End.TheVariants.{Done, Stuck, Stopped}
 use Rattle.mesh_run.specs.declared.Options.{Options}
 use Rattle.mesh_run.specs.declared.WholeRun.{WholeRun}
 use Rattle.mesh_run.specs.declared.domain_run.DomainRun.{DomainRun}
+use Rattle.geom_check.specs.Geometry.{PlanarMap}
+use Rattle.size_field.specs.Cutting.{pieces_of}
 use Rattle.mesh_run.specs.Opening.{unmeshed_run}
 
 abbrev pub is_stopped : End → Bool
@@ -38,3 +40,7 @@ unmeshed_whole shift options pieces segments = record {
   domains = unmeshed_runs segments pieces;
   end = end_of_all (unmeshed_runs segments pieces);
 }
+
+-- the whole run of an accepted geometry where no rule applies: its segments are cut by the options' sizes and its own
+abbrev pub unmeshed_geometry : PlanarMap → Options → WholeRun
+unmeshed_geometry g options = unmeshed_whole g.shift options (pieces_of g options.greatest options.grading) g.segments

@@ -28,7 +28,7 @@ pub use lists::{Elements, FrontRows, OpeningLines, PointNumbers};
 pub use mesh::mesh_of;
 pub use size_field::{Piece, Pieces};
 pub use std::alloc::AllocError as OutOfMemory;
-pub use whole::open_all;
+pub use whole::{open_all, open_geometry};
 
 /// The options of a run.
 #[derive(Clone, Copy, Debug, PartialEq, Eq)]

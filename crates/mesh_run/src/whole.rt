@@ -1,14 +1,15 @@
 // The run of all domains, where no rule applies.
 ghost use Rattle.std.specs.Prelude.{◌≡◌, IfOk, All};
 ghost use Rattle.std.specs.List.{list_any};
+ghost use Rattle.size_field.specs.Size.{AreLimits};
 ghost use Rattle.mesh_run.specs.Boundary.{IsPieceOf};
 ghost use Rattle.mesh_run.specs.Mesh.{NamesItsPoints};
-ghost use Rattle.mesh_run.specs.Whole.{end_of_all, is_stopped, is_stuck, unmeshed_runs, unmeshed_whole};
+ghost use Rattle.mesh_run.specs.Whole.{end_of_all, is_stopped, is_stuck, unmeshed_geometry, unmeshed_runs, unmeshed_whole};
 
 use super::opening::{number_mesh, open_domain};
 use super::{DomainRun, DomainRuns, End, Options, WholeRun};
-use geom_check::{Segment, domain_numbers};
-use size_field::{Piece, Pieces};
+use geom_check::{Geometry, Segment, domain_numbers};
+use size_field::{Piece, Pieces, cut};
 use std::alloc::{AllocError as OutOfMemory, Global};
 
 /// Whether one of the runs was stopped.
@@ -81,4 +82,15 @@ pub fn open_all(
         domains: DomainRuns::from_vec(runs),
         end,
     })
+}
+
+/// The whole run of an accepted geometry where no rule is live: its segments are cut into pieces by
+/// the options' sizes and its own, and each domain's run is its opening state.
+pub fn open_geometry(alloc: Global, g: &Geometry, options: Options) -> Result<WholeRun, OutOfMemory>
+    requires { AreLimits options.greatest options.grading }
+    ensures run { IfOk result (λ w. w ≡ unmeshed_geometry g.now options) }
+    ensures names { IfOk result (λ w. All NamesItsPoints w.domains) }
+{
+    let pieces = cut(alloc, g, options.greatest, options.grading)?;
+    open_all(alloc, g.shift(), options, pieces, g.segments())
 }

@@ -11,7 +11,7 @@ use Rattle.in2d_reader.specs.declared.geometry.SegmentRow.{SegmentRow}
 use Rattle.in2d_reader.specs.declared.geometry.RawGeometry.{RawGeometry}
 use Rattle.geom_check.specs.declared.kinds.Segment.{Segment}
 use Rattle.geom_check.specs.Accepted.{NamesDomain}
-use Rattle.geom_check.specs.Boundary.{boundary, edge_of, reversed, with_edge}
+use Rattle.geom_check.specs.Boundary.{boundary, edge_of, back, with_edge}
 use Rattle.geom_check.specs.Placed.{segments_from}
 use Rattle.geom_check.specs.Geometry.{PlanarMap, IsGeometryOf}
 use Rattle.mesh_run.specs.declared.End.TheVariants.{Done, Stuck, Stopped}
@@ -39,7 +39,7 @@ edge_of_side e f false false false false p q rest more later named none = later 
 
 some_edge : (points : List Point) (d : ℕ) (ss : List Segment) → list_any (nat_eq d) (sides_of ss) ≡ true → boundary points d ss ≢ []
 some_edge points d [] named none = absurd (cc)
-some_edge points d (s ∷ ss) named none = edge_of_side (edge_of points s) (reversed (edge_of points s)) (s.left == d) (s.right == d) (nat_eq d s.left) (nat_eq d s.right) (same_test d s.left) (same_test d s.right) (boundary points d ss) (list_any (nat_eq d) (sides_of ss)) (some_edge points d ss) named none
+some_edge points d (s ∷ ss) named none = edge_of_side (edge_of points s) (back (edge_of points s)) (s.left == d) (s.right == d) (nat_eq d s.left) (nat_eq d s.right) (same_test d s.left) (same_test d s.right) (boundary points d ss) (list_any (nat_eq d) (sides_of ss)) (some_edge points d ss) named none
 
 -- ---- the ends of domains
 

@@ -15,7 +15,7 @@ use Rattle.grid_geom.specs.Area.{sweep_of, shoelace}
 use Rattle.grid_geom.proofs.Within.{within_mul}
 use Rattle.grid_geom.proofs.Ring.{var, num, ◌⊖◌, ◌⊗◌, ring}
 use Rattle.geom_check.specs.declared.kinds.Segment.{Segment}
-use Rattle.geom_check.specs.Boundary.{boundary, point_at, edge_of, reversed, with_edge, IsSegmentOf}
+use Rattle.geom_check.specs.Boundary.{boundary, point_at, edge_of, back, with_edge, IsSegmentOf}
 use Rattle.netmesh_cli.specs.declared.areas.TheConstants.{SWEPT}
 
 -- from the origin the orientation is what the edge sweeps
@@ -29,12 +29,12 @@ pub swept_within : (a b : Point) → IsOnGrid a → IsOnGrid b → IsWithin SWEP
 swept_within a b on_a on_b = difference_within _ _ (within_mul GRID GRID a.x b.y on_a.x_within on_b.y_within) (within_mul GRID GRID a.y b.x on_a.y_within on_b.x_within)
 
 -- an edge sweeps backwards what it sweeps forwards
-swept_back : (e : Edge) → sweep_of (reversed e) ≡ pos 0 -ℤ sweep_of e
+swept_back : (e : Edge) → sweep_of (back e) ≡ pos 0 -ℤ sweep_of e
 swept_back e = ring (e.a.x ∷ e.a.y ∷ e.b.x ∷ e.b.y ∷ []) (var 2 ⊗ var 1 ⊖ var 3 ⊗ var 0) (num (pos 0) ⊖ (var 0 ⊗ var 3 ⊖ var 1 ⊗ var 2)) refl
 
 -- the sum of an edge as it stands where the domain is on the left, and backwards where it is on the right
 abbrev sum_of : Bool → Bool → Edge → List Edge → ℤ
-sum_of left right e more = shoelace (with_edge left e (with_edge right (reversed e) more))
+sum_of left right e more = shoelace (with_edge left e (with_edge right (back e) more))
 
 sum_first : (left right : Bool) (e : Edge) (more : List Edge) → sum_of left right e more ≡ sum_of left right e [] +ℤ shoelace more
 sum_first true true e more = omega (arith, ints)
@@ -55,7 +55,7 @@ pub added_none : (points : List Point) (domain : ℕ) (s : Segment) → s.left �
 added_none points domain s l r = rw (ne_eqb s.left domain l, ne_eqb s.right domain r) refl
 
 -- forwards and backwards it adds nothing
-both : (b c : Bool) (e : Edge) → b ≡ c → shoelace (with_edge b e (with_edge c (reversed e) [])) ≡ pos 0
+both : (b c : Bool) (e : Edge) → b ≡ c → shoelace (with_edge b e (with_edge c (back e) [])) ≡ pos 0
 both true true e same = let back = swept_back e in omega (arith, ints, back)
 both true false e same = absurd (cc)
 both false true e same = absurd (cc)

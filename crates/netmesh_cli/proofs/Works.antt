@@ -11,7 +11,7 @@ use Rattle.grid_geom.specs.declared.RatPoint.{RatPoint}
 use Rattle.grid_geom.specs.Winding.{wind}
 use Rattle.geom_check.specs.declared.kinds.Segment.{Segment}
 use Rattle.geom_check.specs.Boundary.{boundary}
-use Rattle.geom_check.specs.Accepted.{IsPlanar, IsSide}
+use Rattle.geom_check.specs.Accepted.{IsPlanar, IsZeroOrOne}
 use Rattle.geom_check.specs.Geometry.{PlanarMap}
 use Rattle.mesh_run.specs.declared.domain_run.DomainRun.{DomainRun}
 use Rattle.mesh_run.specs.Boundary.{whole_pieces}
@@ -47,7 +47,7 @@ winds g n q = ap (wind q) (front_is_boundary n g.segments (whole_pieces g.points
 wound : (g : PlanarMap) → IsPlanar g.points g.segments → (n : ℕ) → 0 < n → IsWound g (run_in g n)
 wound g planar n positive = record {
   same = λ q off. winds g n q;
-  side = λ q off. subst IsSide (sym (winds g n q)) (planar.winding n positive q off.rational off.off);
+  side = λ q off. subst IsZeroOrOne (sym (winds g n q)) (planar.winding n positive q off.rational off.off);
 }
 
 apart : (g : PlanarMap) → IsPlanar g.points g.segments → (q : RatPoint) → IsOffSegments g q → (c d : ℕ) → 0 < c → c < d → ¬ DoBothWind q (run_in g c) (run_in g d)

@@ -12,7 +12,7 @@ use Rattle.grid_geom.specs.Winding.{wind}
 use Rattle.grid_geom.specs.Closed.{IsOff}
 use Rattle.rule_reader.specs.declared.rule.Rule.{Rule}
 use Rattle.geom_check.specs.Boundary.{boundary, edges_of}
-use Rattle.geom_check.specs.Accepted.{IsSide}
+use Rattle.geom_check.specs.Accepted.{IsZeroOrOne}
 use Rattle.geom_check.specs.Geometry.{PlanarMap}
 use Rattle.mesh_run.specs.declared.Options.{Options}
 use Rattle.mesh_run.specs.declared.WholeRun.{WholeRun}
@@ -93,7 +93,7 @@ pub record IsOffSegments (g : PlanarMap) (q : RatPoint) : Type 0 where
 pub record IsWound (g : PlanarMap) (d : DomainRun) : Type 0 where
   pub same : (q : RatPoint) → IsOffSegments g q
       → wind q (front_edges d) ≡ wind q (boundary g.points d.domain g.segments)
-  pub side : (q : RatPoint) → IsOffSegments g q → IsSide (wind q (front_edges d))
+  pub side : (q : RatPoint) → IsOffSegments g q → IsZeroOrOne (wind q (front_edges d))
 
 -- the fronts of two domains wind round one place
 pub record DoBothWind (q : RatPoint) (c d : DomainRun) : Type 0 where

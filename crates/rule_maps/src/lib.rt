@@ -6,6 +6,22 @@
 //! 3. No number passes 128 bits; the bounds are computed from `GRID` and `LONGEST` of grid_geom.
 #![tactic(auto)]
 
+mod compiled;
 mod frame;
+mod inert;
+pub mod laws;
+mod placing;
+mod reach;
+mod rule_set;
+mod sums;
 
+pub use compiled::{Compiled, compile};
 pub use frame::Frame;
+pub use inert::Inert;
+pub use rule_set::RuleSet;
+pub use std::alloc::AllocError as OutOfMemory;
+
+#[cfg(test)]
+mod tests;
+#[cfg(test)]
+mod texts;

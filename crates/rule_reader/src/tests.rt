@@ -140,29 +140,65 @@ fn repeated(
 fn refusals(rt: HostRuntime) -> Result<(), Fail> {
     let fourth = refusal(&rt, b"rule \"A\" elements (1, 2, 3, 1); endrule");
     assert!(rt; fourth == Some(RuleRefusal::Syntax { word: 10 }));
+    let missing = refusal(&rt, b"rule \"A\" quality");
+    assert!(rt; missing == Some(RuleRefusal::Syntax { word: 4 }));
     let negative = refusal(&rt, b"rule \"A\" quality -1 endrule");
     assert!(rt; negative == Some(RuleRefusal::Number { word: 4 }));
-    let no_line = refusal(&rt, b"rule \"A\" endrule");
-    assert!(rt; no_line == Some(RuleRefusal::BadIndex { rule: 1, word: 3 }));
+    let great = refusal(&rt, b"rule \"A\" newpoints (0, 0) { 17 X1 }; endrule");
+    assert!(rt; great == Some(RuleRefusal::Number { word: 10 }));
     assert!(rt; refusal(&rt, b"tolfak 0.5 # and nothing more").is_none());
     Ok(())
 }
 
 #[test]
-fn refusals_past_a_limit(rt: HostRuntime) -> Result<(), Fail> {
-    let points = repeated(
+fn wrong_indices(rt: HostRuntime) -> Result<(), Fail> {
+    let bad = |word: u64| Some(RuleRefusal::BadIndex { rule: 1, word });
+    assert!(rt; refusal(&rt, b"rule \"A\" endrule") == bad(3));
+    let points = b"rule \"A\" mappoints (0, 0); (1, 0); maplines";
+    let back = repeated(rt.alloc(), points, b" (2, 1);", 1, b" endrule")?;
+    assert!(rt; refusal(&rt, &back) == bad(18));
+    let past = repeated(
         rt.alloc(),
-        b"rule \"A\" mappoints",
-        b" (0, 0);",
-        17,
-        b" endrule",
+        points,
+        b" (1, 2);",
+        1,
+        b" newlines (1, 3); endrule",
     )?;
-    assert!(rt; refusal(&rt, &points) == Some(RuleRefusal::TooMany { rule: 1, what: 2 }));
-    let rule = b"rule \"A\" mappoints (0, 0); (1, 0); maplines (1, 2); endrule\n";
-    let rules = repeated(rt.alloc(), b"", rule, 257, b"")?;
-    assert!(rt; refusal(&rt, &rules) == Some(RuleRefusal::TooMany { rule: 257, what: 1 }));
-    let most = repeated(rt.alloc(), b"", rule, 256, b"")?;
-    assert!(rt; refusal(&rt, &most).is_none());
+    assert!(rt; refusal(&rt, &past) == bad(27));
+    Ok(())
+}
+
+/// The limit that a text passes: the first text, and the part so often.
+fn passed(rt: &HostRuntime, first: &[u8], part: &[u8], times: usize) -> Result<(u64, u64), Fail> {
+    let text = repeated(rt.alloc(), first, part, times, b"")?;
+    match refusal(rt, &text) {
+        Some(RuleRefusal::TooMany { rule, what }) => Ok((rule, what)),
+        _ => Err("a limit is passed".into()),
+    }
+}
+
+#[test]
+fn limits(rt: HostRuntime) -> Result<(), Fail> {
+    assert!(rt; passed(&rt, b"rule \"A\" mappoints", b" (0, 0);", 17)? == (1, 2));
+    assert!(rt; passed(&rt, b"rule \"A\" maplines", b" (1, 2);", 17)? == (1, 3));
+    assert!(rt; passed(&rt, b"rule \"A\" newpoints", b" (0, 0);", 9)? == (1, 4));
+    assert!(rt; passed(&rt, b"rule \"A\" newlines", b" (1, 2);", 25)? == (1, 5));
+    assert!(rt; passed(&rt, b"rule \"A\" freearea", b" (0, 0);", 25)? == (1, 6));
+    assert!(rt; passed(&rt, b"rule \"A\" freearea2", b" (0, 0);", 25)? == (1, 7));
+    assert!(rt; passed(&rt, b"rule \"A\" elements", b" (1, 2, 3);", 9)? == (1, 8));
+    assert!(rt; passed(&rt, b"rule \"A\" orientations", b" (1, 2, 3);", 17)? == (1, 9));
+    assert!(rt; passed(&rt, b"rule \"A\" newpoints (0, 0) { 1 X1", b", 1 X1", 32)? == (1, 10));
+    Ok(())
+}
+
+#[test]
+fn limits_of_names_and_rules(rt: HostRuntime) -> Result<(), Fail> {
+    let rule = b"mappoints (0, 0); (1, 0); maplines (1, 2); endrule rule \"A\"\n";
+    assert!(rt; passed(&rt, b"rule \"A\"", rule, 256)? == (257, 1));
+    let name = repeated(rt.alloc(), b"rule \"", b"A", 201, b"\"")?;
+    assert!(rt; refusal(&rt, &name) == Some(RuleRefusal::TooMany { rule: 1, what: 11 }));
+    let shorter = repeated(rt.alloc(), b"rule \"", b"A", 200, b"\"")?;
+    assert!(rt; refusal(&rt, &shorter) == Some(RuleRefusal::Syntax { word: 3 }));
     Ok(())
 }
 

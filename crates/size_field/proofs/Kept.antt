@@ -4,7 +4,8 @@ use Rattle.std.proofs.lemmas.List.Elements.{All-push}
 use Rattle.grid_geom.specs.declared.Point.{Point}
 use Rattle.grid_geom.specs.declared.TheConstants.{LONGEST}
 use Rattle.geom_check.specs.declared.kinds.Source.{Source}
-use Rattle.size_field.specs.Size.{SizeField, least_size, size_at, size_from, IsSource}
+use Rattle.geom_check.specs.Geometry.{IsSource}
+use Rattle.size_field.specs.Size.{SizeField, least_size, size_at, size_from}
 use Rattle.size_field.specs.Kept.{AreKept}
 use Rattle.size_field.proofs.LeastSizes.{least_min, least_push, least_most, least_positive}
 
@@ -29,9 +30,9 @@ pub record IsBounded (field : SizeField) (n : ℕ) : Type 0 where
 
 pub bounded_at : (field : SizeField) (tree : List Source) (q : Point) (n : ℕ) → AreKept field tree → n ≡ least_size field.grading q field.greatest tree → IsBounded field n
 bounded_at field tree q n kept is = rw (is, kept.alike q) (record {
-  least = least_positive field.grading q field.greatest field.sources kept.limits.least kept.sources;
+  least = least_positive field.grading q field.greatest field.sources kept.limits.length.least kept.sources;
   most = most;
-  small = omega (arith, most, kept.limits.most);
+  small = omega (arith, most, kept.limits.length.greatest);
 })
   where
     most : size_at field q ≤ field.greatest

@@ -5,7 +5,8 @@ use Rattle.std.specs.List.{All, Any, AllByRecursion}
 use Rattle.std.proofs.lemmas.List.Elements.{All-nil, All-cons, All-head, All-tail}
 use Rattle.grid_geom.specs.declared.Point.{Point}
 use Rattle.geom_check.specs.declared.kinds.Source.{Source}
-use Rattle.size_field.specs.Size.{SizeField, least_size, size_from, size_at, IsLeast, IsSource}
+use Rattle.geom_check.specs.Geometry.{IsSource}
+use Rattle.size_field.specs.Size.{SizeField, least_size, size_from, size_at, IsLeast}
 
 pub swapped : (n a b : ℕ) → min (min n a) b ≡ min (min n b) a
 swapped n a b = omega arith
@@ -48,7 +49,7 @@ least_most g q n (s ∷ ss) = let h = least_most g q (min n (size_from g q s)) s
 -- and at least 1 where all sizes are
 pub least_positive : (g : ℕ) (q : Point) (n : ℕ) (ss : List Source) → 1 ≤ n → All IsSource ss → 1 ≤ least_size g q n ss
 least_positive g q n [] h k = h
-least_positive g q n (s ∷ ss) h k = let f = (All-head IsSource s ss k).least in least_positive g q (min n (size_from g q s)) ss (omega (arith, f, h)) (All-tail IsSource s ss k)
+least_positive g q n (s ∷ ss) h k = let f = (All-head IsSource s ss k).length.least in least_positive g q (min n (size_from g q s)) ss (omega (arith, f, h)) (All-tail IsSource s ss k)
 
 -- it is at most each, and it is one of them
 least_each : (g : ℕ) (q : Point) (n m : ℕ) (ss : List Source) → m ≤ least_size g q n ss → All (λ s. m ≤ size_from g q s) ss

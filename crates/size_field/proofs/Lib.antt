@@ -7,5 +7,12 @@ pub mod Kept
 -- Trees: what is known of a branch.
 pub mod Branches
 pub mod Taking
--- Pieces: cuts in the middle.
+-- Pieces: middles, cuts in them, what holds of the pieces of a segment, and of all pieces.
+pub mod Middles
 pub mod Cuts
+pub mod PartLaws
+pub mod Rows
+pub mod AllPieces
+pub mod Bounds
+pub mod Regions
+pub mod Sides

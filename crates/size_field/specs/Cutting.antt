@@ -6,7 +6,8 @@
 -- field_before   the sizes of a domain before cutting
 -- bound          how long a piece of a segment may be whose middle is this point
 -- pieces_of      the pieces of a geometry
-use Rattle.std.specs.Prelude.{ℕ, zero, suc, ◌+◌, ◌==◌, min, nat_lt, if◌then◌else◌, Option, Some, None, List, [], ◌∷◌, ◌++◌, map, ℤ, pos, ◌+ℤ◌, ◌*ℤ◌}
+-- IsMiddle       what the middle between two points is
+use Rattle.std.specs.Prelude.{◌≡◌, ℕ, zero, suc, ◌+◌, ◌==◌, min, nat_lt, if◌then◌else◌, Option, Some, None, List, [], ◌∷◌, ◌++◌, map, slice_index_or, ℤ, pos, ◌+ℤ◌, ◌*ℤ◌}
 use Rattle.std.specs.Int.{int_div_euclid}
 use Rattle.std.specs.Ordering.{int_eq}
 use Rattle.grid_geom.specs.declared.Point.{Point}
@@ -77,12 +78,12 @@ at_most n None = n
 at_most n (Some m) = min n m
 
 -- the greatest size of a domain: its own one, or the given one, if that is less
-abbrev pub greatest_in : PlanarMap → ℕ → ℕ → ℕ
-greatest_in g greatest domain = at_most greatest (size_of_domain g.domains domain)
+abbrev pub greatest_in : List Domain → ℕ → ℕ → ℕ
+greatest_in domains greatest domain = at_most greatest (size_of_domain domains domain)
 
 -- the sizes of a domain before cutting: the sources are those of the file's points
 abbrev pub field_before : PlanarMap → ℕ → ℕ → ℕ → SizeField
-field_before g greatest grading domain = record { greatest = greatest_in g greatest domain; grading = grading; sources = g.flagged }
+field_before g greatest grading domain = record { greatest = greatest_in g.domains greatest domain; grading = grading; sources = g.flagged }
 
 -- how long a piece may be whose middle is m and on whose side this domain lies; the outside, 0, allows any length
 abbrev pub side_bound : PlanarMap → ℕ → ℕ → ℕ → Point → ℕ
@@ -97,6 +98,17 @@ bound g greatest grading s m = at_most (min (side_bound g greatest grading s.lef
 abbrev pub parts_of : PlanarMap → ℕ → ℕ → Segment → List Edge
 parts_of g greatest grading s = parts (bound g greatest grading s) MOST_HALVINGS (point_at g.points s.p) (point_at g.points s.q)
 
+-- the segment at a position
+abbrev pub segment_at : PlanarMap → ℕ → Segment
+segment_at g index = slice_index_or g.segments index (record { left = 0; right = 0; p = 0; q = 0; bc = 0; maxh = None })
+
+-- without regard to sources: how long a piece may be on whose side a domain lies, and how long the pieces of a segment
+abbrev pub side_most : List Domain → ℕ → ℕ → ℕ
+side_most domains greatest domain = if domain == 0 then LONGEST else greatest_in domains greatest domain
+
+abbrev pub most_of : List Domain → ℕ → Segment → ℕ
+most_of domains greatest s = at_most (min (side_most domains greatest s.left) (side_most domains greatest s.right)) s.maxh
+
 -- an edge as a piece of segment n
 abbrev pub piece_of : ℕ → Edge → Piece
 piece_of n e = record { segment = n; a = e.a; b = e.b }
@@ -109,3 +121,8 @@ pieces_from cut n (s ∷ ss) = map (piece_of n) (cut s) ++ pieces_from cut (n + 
 -- the pieces of a geometry, segment by segment
 abbrev pub pieces_of : PlanarMap → ℕ → ℕ → List Piece
 pieces_of g greatest grading = pieces_from (parts_of g greatest grading) 1 g.segments
+
+-- m is in the middle between a and b
+pub record IsMiddle (m a b : Point) : Type 0 where
+  pub x : pos 2 *ℤ m.x ≡ a.x +ℤ b.x
+  pub y : pos 2 *ℤ m.y ≡ a.y +ℤ b.y

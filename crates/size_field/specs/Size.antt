@@ -9,9 +9,8 @@
 use Rattle.std.specs.Prelude.{◌≡◌, ◌⊎◌, ℕ, ◌+◌, ◌*◌, ◌/◌, ◌≤◌, min, max, List, fold, All, Any, ◌-ℤ◌}
 use Rattle.std.specs.Int.RustNames.{unsigned_abs}
 use Rattle.grid_geom.specs.declared.Point.{Point}
-use Rattle.grid_geom.specs.declared.TheConstants.{LONGEST}
-use Rattle.grid_geom.specs.Bounds.{IsOnGrid}
 use Rattle.geom_check.specs.declared.kinds.Source.{Source}
+use Rattle.geom_check.specs.Geometry.{IsLength}
 use Rattle.size_field.specs.declared.TheConstants.{GRADING_UNIT, MOST_GRADING}
 
 -- a greatest size, how fast sizes grow with the distance (in thousandths), and the places with a size of their own
@@ -42,14 +41,7 @@ pub record IsLeast (field : SizeField) (q : Point) (n : ℕ) : Type 0 where
   pub sources : All (λ s. n ≤ size_from field.grading q s) field.sources
   pub reached : (n ≡ field.greatest) ⊎ Any (λ s. n ≡ size_from field.grading q s) field.sources
 
--- a source on the grid, with a size from 1 to the grid's width
-pub record IsSource (s : Source) : Type 0 where
-  pub on_grid : IsOnGrid s.at
-  pub least : 1 ≤ s.h
-  pub greatest : s.h ≤ LONGEST
-
 -- what is asked of a greatest size and a grading
 pub record AreLimits (greatest grading : ℕ) : Type 0 where
-  pub least : 1 ≤ greatest
-  pub most : greatest ≤ LONGEST
+  pub length : IsLength greatest
   pub slow : grading ≤ MOST_GRADING

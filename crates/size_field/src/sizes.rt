@@ -2,7 +2,8 @@
 ghost use Rattle.std.specs.Prelude.{◌≡◌, ◌≤◌, ℕ, [], ◌∷◌, ◌++◌, OnOk, OnErr};
 ghost use Rattle.grid_geom.specs.Bounds.{IsOnGrid};
 ghost use Rattle.grid_geom.specs.declared.Point.{Point as AnyPoint};
-ghost use Rattle.size_field.specs.Size.{least_size, size_at, IsSource, AreLimits};
+ghost use Rattle.geom_check.specs.Geometry.{IsSource};
+ghost use Rattle.size_field.specs.Size.{least_size, size_at, AreLimits};
 
 use super::query::{Query, Way};
 use super::tree::Tree;

@@ -9,9 +9,9 @@ mod decimals;
 mod name;
 mod scanner;
 mod spaced;
-pub mod token_laws;
 mod tokens;
 mod wholes;
+pub mod word_laws;
 
 pub use decimals::{Dec, decimal};
 pub use name::Name;

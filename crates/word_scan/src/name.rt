@@ -17,11 +17,18 @@ impl Model for Name {
 }
 
 impl Name {
-    /// The name of these bytes.
+    /// The name of these bytes. Takes no memory.
     pub fn from_vec(bytes: Vec<u8>) -> Self
         ensures { result ≡ bytes.items }
     {
         Name { bytes }
+    }
+
+    /// The bytes of the name, given back as the vector that they came in. Takes no memory.
+    pub fn into_vec(self) -> Vec<u8>
+        ensures { result.items ≡ self }
+    {
+        self.bytes
     }
 
     /// The bytes of the name.

@@ -4,6 +4,7 @@ ghost use Rattle.std.specs.Prelude.{◌≡◌, ◌+◌, ◌≤◌, ◌∷◌, []
 ghost use Rattle.word_scan.specs.Scan.{scan_from};
 ghost use Rattle.word_scan.specs.Bytes.{bytes_of};
 ghost use Rattle.word_scan.specs.Parts.{Reads};
+ghost use Rattle.word_scan.specs.TokenParts.{TokenReads};
 
 use crate::{spaced, tokens};
 use std::marker::Model;
@@ -77,6 +78,9 @@ impl<'a> Scanner<'a> {
         // In the spaced style the words are those of the text, and a scanner ends by End.
         ensures spaced { style ≡ Style.Spaced → Reads text.now result.left }
         ensures ending { style ≡ Style.Spaced → result.ending ≡ ScanRefusal.End }
+
+        // In the tokens style the words are the text's tokens, up to its end or to where no token stands.
+        ensures tokens { style ≡ Style.Tokens → TokenReads text.now result.left result.ending }
     {
         Scanner {
             text,

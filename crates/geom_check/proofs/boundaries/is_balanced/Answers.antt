@@ -1,5 +1,5 @@
 use Rattle.std.proofs.Common.{pos, arith}
-use Rattle.geom_check.proofs.Counts.{leaving_drop, arriving_drop}
+use Rattle.geom_check.proofs.Closing.{leaving_drop, arriving_drop}
 use Rattle.geom_check.proofs.boundaries.is_balanced.Goals as goal
 
 pub loop-edge-preserved : goal.loop-edge-preserved

@@ -1,8 +1,8 @@
 use Rattle.std.proofs.Common.{◌≡◌, ◌∙◌, sym, subst, ℕ, pos, ◌<◌, ◌≤◌, List, length, All, AllPairs, Some, None, IfSome, IfNone}
 use Rattle.grid_geom.specs.declared.Edge.{Edge}
 use Rattle.geom_check.specs.declared.risers.Riser.{Riser}
-use Rattle.geom_check.specs.Accepted.{IsSide, HasSides}
-use Rattle.geom_check.specs.Boundary.{IsEdgeOnGrid}
+use Rattle.geom_check.specs.Accepted.{IsZeroOrOne, WindsAtMostOnce}
+use Rattle.wind_law.specs.Grid.{IsEdgeOnGrid}
 use Rattle.geom_check.specs.Risers.{is_chosen, winding_of}
 use Rattle.geom_check.specs.RiserOrder.{IsRiserOnGrid, IsFree, IsSoundAll, HasLevels, IsLevelsOf, far}
 use Rattle.geom_check.specs.Strips.{IsWitness}
@@ -10,6 +10,7 @@ use Rattle.geom_check.proofs.EdgesTurned.{edges_on_grid, risers_on_grid, risers_
 use Rattle.geom_check.proofs.FarLeft.{far_from_domain, far_from_all}
 use Rattle.geom_check.proofs.Overlaps.{all_sides, none_overlap, least_side, overlap_at}
 use Rattle.geom_check.proofs.windings.check_windings.Goals as goal
+use Rattle.geom_check.specs.declared.limits.TheConstants.{MOST_DOMAINS}
 
 pub levels-requires-clause-on_grid : goal.levels-requires-clause-on_grid
 levels-requires-clause-on_grid c = subst (λ (es : List Edge). All IsEdgeOnGrid es) (sym c.requires.edges) (edges_on_grid c.args.points.now c.args.segments.now c.requires.on_grid c.requires.joined)
@@ -35,7 +36,7 @@ first_side-requires-clause-balanced c d y h =
 pub returns-in-Some-clause-refused : goal.returns-in-Some-clause-refused
 returns-in-Some-clause-refused c =
     least_side c.args.points.now c.args.segments.now c.args.edges.now c.deref-2.result.now c.in-Some.domain c.in-Some.at c.requires.edges (c.deref-2.ensures.value ∙ c.in_ok-risers.ensures) (subst (λ o. IfSome o (λ side. 0 < side.0)) c.in-Some.is c.in_ok-domain.ensures.positive)
-    (subst (λ o. IfSome o (λ side. IsWitness (λ q. ¬ (IsSide (winding_of (is_chosen (Some side.0)) q c.deref-2.result.now))) c.args.edges.now side.1)) c.in-Some.is c.in_ok-domain.ensures.found)
+    (subst (λ o. IfSome o (λ side. IsWitness (λ q. ¬ (IsZeroOrOne (winding_of (is_chosen (Some side.0)) q c.deref-2.result.now))) c.args.edges.now side.1)) c.in-Some.is c.in_ok-domain.ensures.found)
     (subst (λ o. IfSome o (λ side. (d : ℕ) → 0 < d → d < side.0 → IsSoundAll (is_chosen (Some d)) c.deref-2.result.now)) c.in-Some.is c.in_ok-domain.ensures.least)
 
 pub first_fault-requires-clause-levels : goal.first_fault-requires-clause-levels
@@ -58,16 +59,16 @@ first_fault-requires-clause-balanced c y =
 
 pub returns-in-Some-2-clause-refused : goal.returns-in-Some-2-clause-refused
 returns-in-Some-2-clause-refused c =
-    let sides : (d : ℕ) → 0 < d → HasSides c.args.points.now c.args.segments.now d = all_sides c.args.points.now c.args.segments.now c.deref-2.result.now c.requires.joined (c.deref-2.ensures.value ∙ c.in_ok-risers.ensures) (subst (λ o. IfNone o ((d : ℕ) → 0 < d → d ≤ 64 → IsSoundAll (is_chosen (Some d)) c.deref-2.result.now)) c.in_default.is c.in_ok-domain.ensures.none) in (
+    let sides : (d : ℕ) → 0 < d → WindsAtMostOnce c.args.points.now c.args.segments.now d = all_sides c.args.points.now c.args.segments.now c.deref-2.result.now c.requires.joined (c.deref-2.ensures.value ∙ c.in_ok-risers.ensures) (subst (λ o. IfNone o ((d : ℕ) → 0 < d → d ≤ MOST_DOMAINS → IsSoundAll (is_chosen (Some d)) c.deref-2.result.now)) c.in_default.is c.in_ok-domain.ensures.none) in (
       sides,
       overlap_at c.args.points.now c.args.segments.now c.args.edges.now c.deref-4.result.now c.in-Some-2.at c.requires.joined c.requires.edges (c.deref-4.ensures.value ∙ c.in_ok-risers.ensures) sides
-          (subst (λ o. IfSome o (IsWitness (λ q. ¬ (IsSide (winding_of (is_chosen None) q c.deref-4.result.now))) c.args.edges.now)) c.in-Some-2.is c.in_ok-at.ensures.found),
+          (subst (λ o. IfSome o (IsWitness (λ q. ¬ (IsZeroOrOne (winding_of (is_chosen None) q c.deref-4.result.now))) c.args.edges.now)) c.in-Some-2.is c.in_ok-at.ensures.found),
     )
 
 pub returns-clause-winding : goal.returns-clause-winding
-returns-clause-winding c = all_sides c.args.points.now c.args.segments.now c.deref-2.result.now c.requires.joined (c.deref-2.ensures.value ∙ c.in_ok-risers.ensures) (subst (λ o. IfNone o ((d : ℕ) → 0 < d → d ≤ 64 → IsSoundAll (is_chosen (Some d)) c.deref-2.result.now)) c.in_default.is c.in_ok-domain.ensures.none)
+returns-clause-winding c = all_sides c.args.points.now c.args.segments.now c.deref-2.result.now c.requires.joined (c.deref-2.ensures.value ∙ c.in_ok-risers.ensures) (subst (λ o. IfNone o ((d : ℕ) → 0 < d → d ≤ MOST_DOMAINS → IsSoundAll (is_chosen (Some d)) c.deref-2.result.now)) c.in_default.is c.in_ok-domain.ensures.none)
 
 pub returns-clause-separate : goal.returns-clause-separate
 returns-clause-separate c = none_overlap c.args.points.now c.args.segments.now c.deref-4.result.now c.requires.joined (c.deref-4.ensures.value ∙ c.in_ok-risers.ensures)
-    (all_sides c.args.points.now c.args.segments.now c.deref-2.result.now c.requires.joined (c.deref-2.ensures.value ∙ c.in_ok-risers.ensures) (subst (λ o. IfNone o ((d : ℕ) → 0 < d → d ≤ 64 → IsSoundAll (is_chosen (Some d)) c.deref-2.result.now)) c.in_default.is c.in_ok-domain.ensures.none))
+    (all_sides c.args.points.now c.args.segments.now c.deref-2.result.now c.requires.joined (c.deref-2.ensures.value ∙ c.in_ok-risers.ensures) (subst (λ o. IfNone o ((d : ℕ) → 0 < d → d ≤ MOST_DOMAINS → IsSoundAll (is_chosen (Some d)) c.deref-2.result.now)) c.in_default.is c.in_ok-domain.ensures.none))
     (subst (λ o. IfNone o (IsSoundAll (is_chosen None) c.deref-4.result.now)) c.in-None.is c.in_ok-at.ensures.none)

@@ -1,4 +1,4 @@
-use Rattle.std.proofs.Common.{◌≡◌, ℕ, ◌++◌, List, sym, ap, ◌∙◌}
+use Rattle.std.proofs.Common.{◌++◌, List, sym, ap, ◌∙◌}
 use Rattle.size_field.specs.declared.pieces.Piece.{Piece}
 use Rattle.size_field.specs.Cutting.{bound_by}
 use Rattle.size_field.proofs.Cuts.{parts_whole, parts_two}

@@ -1,4 +1,4 @@
-use Rattle.std.proofs.Common.{◌≡◌, ◌≤◌, sym, subst}
+use Rattle.std.proofs.Common.{◌≤◌, sym, subst}
 use Rattle.size_field.specs.Size.{SizeField}
 use Rattle.size_field.proofs.Kept.{alike_below}
 use Rattle.size_field.proofs.sizes.Sizes.below.Goals as goal

@@ -1,0 +1,15 @@
+use native.Mathlib.Omega.{arith}
+use Rattle.std.proofs.Common.{pos, false}
+use Rattle.std.proofs.lemmas.Int.{ints}
+use Rattle.std.proofs.lemmas.List.{at_drop_more}
+use mir.Val.{to_z}
+use mir.Syntax.{w64}
+use Rattle.rule_maps.specs.Sums.{resting}
+use Rattle.rule_maps.proofs.Summing.{rested_more, rested_small}
+use Rattle.rule_maps.proofs.sums.resting.Goals as goal
+
+pub loop-term-preserved : goal.loop-term-preserved
+loop-term-preserved c = rw (rested_more (to_z w64 c.loop-term.sum-bits) c.rested-sum.result c.loop-term.term-index (omega (arith, c.requires.row.0, c.loop-term-test.true)) c.loop-term.invariant.small c.rested-sum.ensures.small) (record {
+  ahead = omega (arith, ints, c.loop-term.invariant.ahead, c.rested-sum.ensures.value, at_drop_more (resting c.args.points.now) c.args.row.now c.loop-term.term-index (record { coefficient = pos 0; of_y = false; point = 0 }) (omega (arith, c.loop-term-test.true)));
+  small = rested_small (to_z w64 c.loop-term.sum-bits) c.rested-sum.result c.loop-term.term-index c.loop-term.invariant.small c.rested-sum.ensures.small;
+})

@@ -1,0 +1,16 @@
+-- The order of finds: RankOrder, that it is total; OneLeast, that a line has one least candidate.
+pub mod RankOrder
+pub mod OneLeast
+-- The walk: Advances, what is found and noted along it; Turns, one turn of a loop; Regions, regions narrowed to fresh numbers.
+pub mod Advances
+pub mod Turns
+pub mod Regions
+-- Reasons: Places, from candidates by numbers to candidates by places; MoreNotes, reasons with more notes; KeptOne, reasons over an application.
+pub mod Places
+pub mod MoreNotes
+pub mod KeptOne
+-- First points: Prefixes, what fails of them fails however they go on; Orders, the rule's order and the order of mapping; NextPoint, the tests when one point more is mapped; Covered, the regions of points.
+pub mod Prefixes
+pub mod Orders
+pub mod NextPoint
+pub mod Covered

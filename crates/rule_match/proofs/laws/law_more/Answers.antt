@@ -1,0 +1,5 @@
+use Rattle.rule_match.proofs.MoreNotes.{excused_more}
+use Rattle.rule_match.proofs.laws.law_more.Goals as goal
+
+pub returns : goal.returns
+returns c = excused_more

@@ -1,0 +1,25 @@
+-- What a candidate does to a domain.
+--
+-- numbers_from   numbers for new points, after those that are listed
+-- application    the application that a candidate gives
+use Rattle.std.specs.Prelude.{ℕ, ◌+◌, List, [], ◌∷◌, ◌++◌, length, map}
+use Rattle.grid_geom.specs.declared.Point.{Point}
+use Rattle.state_law.specs.State.{State}
+use Rattle.rule_match.specs.declared.application.Application.{Application}
+use Rattle.rule_match.specs.Candidate.{Maps, Attempt, nth, made}
+
+-- the numbers after n, one for each place
+abbrev pub numbers_from : ℕ → List Point → List ℕ
+numbers_from n [] = []
+numbers_from n (p ∷ ps) = (n + 1) ∷ numbers_from (n + 1) ps
+
+-- rule point numbers replaced by the domain's, new points after the listed ones
+abbrev pub application : Maps → State → Attempt → Application
+application maps st t = record {
+  class = t.class;
+  line = t.line.0;
+  rule = t.rule;
+  points = t.points;
+  made = made maps st t;
+  elements = map (map (nth (t.points ++ numbers_from (length st.points) (made maps st t)))) t.text.elements;
+}

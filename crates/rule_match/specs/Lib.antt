@@ -1,0 +1,14 @@
+-- What this crate's words mean, in the order of standing on each other.
+-- Order: which of two finds comes first.
+pub mod Order
+-- Candidate, Applied: when a rule applies at a line and what it does. Least: the least candidate of a line at a class.
+pub mod Candidate
+pub mod Applied
+pub mod Least
+-- Refused: why no candidate is there.
+pub mod Refused
+-- Walk: what a search promises.
+pub mod Walk
+-- Fitting: which first points of an assignment may go on. Trying: the tests of a rule's points.
+pub mod Fitting
+pub mod Trying

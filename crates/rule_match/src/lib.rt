@@ -1,0 +1,36 @@
+#![tactic(auto)]
+//! Which rule applies at a line of the front, and where?
+//!
+//! 1. What a candidate is looks at all rules, all assignments and all front lines. The search looks at
+//!    few: it maps point after point, and gives up as soon as the points mapped so far can't go on.
+//! 2. A search meets every assignment, whatever it gives up: its promise is on all that may still come.
+//! 3. The best find is the least by badness, then rule, then assignment. Badness is compared as a
+//!    fraction, crosswise in 128 bits.
+//! 4. A find that doesn't come before the best so far is never judged.
+//! 5. Where nothing is found, each assignment that was judged has a front line noted that keeps it from
+//!    being a candidate, with a point that it maps.
+
+mod application;
+mod assignment;
+mod badness;
+mod found;
+mod fresh;
+pub mod laws;
+mod near;
+mod progress;
+mod squares;
+mod tolerance;
+mod trying;
+mod walk;
+
+pub use application::Application;
+pub use assignment::Assignment;
+pub use badness::Badness;
+pub use found::Found;
+pub use fresh::search_fresh;
+pub use near::NearPoint;
+pub use progress::{Note, Progress};
+pub use squares::element_badness;
+pub use std::alloc::AllocError as OutOfMemory;
+pub use trying::Trying;
+pub use walk::{Trial, search};
