@@ -12,7 +12,7 @@ use Rattle.std.specs.List.{find, list_any}
 use Rattle.grid_geom.specs.declared.Point.{Point}
 use Rattle.front_chain.specs.declared.chain.Side.{Side}
 use Rattle.front_chain.specs.Front.{number_above}
-use Rattle.front_chain.specs.Tables.{side_at, lines_from, leaving_of, AreTables}
+use Rattle.front_chain.specs.Tables.{side_at, lines_from, leaving_of, is_positive, AreTables}
 
 no_side : {A : Type 0} (s : Side) → None ≡ Some s → A
 no_side s e = absurd (cc)
@@ -112,7 +112,7 @@ gone_more made after i g e j l k = elim (compared j i k) [ inl m ↦ g j l m | i
     compared j i k = grind arith
 
 -- ---- whether a line leaves a point
-leaving_any : (lines : List (ℕ × ℕ × ℕ)) (n : ℕ) → nat_lt 0 (leaving_of lines n) ≡ list_any (λ line. nat_eq line.1 n) lines
+pub leaving_any : (lines : List (ℕ × ℕ × ℕ)) (n : ℕ) → nat_lt 0 (leaving_of lines n) ≡ list_any (λ line. nat_eq line.1 n) lines
 leaving_any [] n = refl
 leaving_any (line ∷ lines) n = by (nat_eq line.1 n) (leaving_any lines n)
   where
@@ -161,3 +161,23 @@ found_some made after i l e g = by (side_at made i) refl e
     by : (o : Option Side) → side_at made i ≡ o → is_some o ≡ true → number_above (lines_from 1 made) after ≡ Some (i + 1)
     by None f h = absurd (cc)
     by (Some s) f h = found_above made after i s l f g
+
+-- a positive count is that of a point that some line leaves
+pub positive_leaves : {points : List Point} {leaving : List ℕ} {made : List (Option Side)} {number : Side → Option ℕ} → AreTables points leaving made number → (n : ℕ) → is_positive leaving n ≡ list_any (λ line. nat_eq line.1 n) (lines_from 1 made)
+positive_leaves h zero = sym (unlisted_leaves h 0 (inl refl))
+positive_leaves {points} {leaving} {made} h (suc i) = by (compared i (length leaving))
+  where
+    compared : (i n : ℕ) → (i < n) ⊎ (n ≤ i)
+    compared i n = grind arith
+
+    past : (ks : List ℕ) (i : ℕ) → length ks ≤ i → nat_lt 0 (get_or ks i 0) ≡ false
+    past [] i l = refl
+    past (k ∷ ks) zero l = absurd (omega (arith, l))
+    past (k ∷ ks) (suc i) l = past ks i (omega (arith, l))
+
+    less : (i : ℕ) → suc i - 1 ≡ i
+    less i = omega arith
+
+    by : (i < length leaving) ⊎ (length leaving ≤ i) → nat_lt 0 (get_or leaving i 0) ≡ list_any (λ line. nat_eq line.1 (suc i)) (lines_from 1 made)
+    by (inl l) = ap (λ (m : ℕ). nat_lt 0 (get_or leaving m 0)) (sym (less i)) ∙ leaves_is h (suc i) (omega arith) (omega (arith, l))
+    by (inr l) = past leaving i l ∙ sym (unlisted_leaves h (suc i) (inr (omega (arith, l))))

@@ -9,3 +9,12 @@ pub mod Above
 pub mod Walks
 -- Gluing one side.
 pub mod Sides
+-- The opening.
+pub mod Openings
+-- Gluing an element.
+pub mod Joins
+-- Front points, and what is true of every front.
+pub mod Ends
+pub mod Kept
+-- A triangle, so that the conditions can be met.
+pub mod Worked

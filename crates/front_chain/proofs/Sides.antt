@@ -1,9 +1,9 @@
 -- Gluing one side, by what a look-up by ends answers.
 use Prim.Native.Nat.{ℕ, ◌+◌}
-use mathlib.Core.Path.{◌≡◌, refl, sym, ap, ◌∙◌}
-use mathlib.Core.Bool.{Bool, true, false, cond, ◌&&◌, ◌||◌}
+use mathlib.Core.Path.{◌≡◌, refl, ap, ◌∙◌}
+use mathlib.Core.Bool.{Bool, true, false, cond, ◌||◌}
 use mathlib.Core.List.{List, [], ◌∷◌, ◌++◌}
-use Rattle.std.specs.Prelude.{nat_eq, Option, Some, None}
+use Rattle.std.specs.Prelude.{Some, None}
 use Rattle.std.specs.Option.{option_map}
 use Rattle.std.specs.List.{find, list_any}
 use Rattle.state_law.specs.State.{does_join, glue_line, next_after}

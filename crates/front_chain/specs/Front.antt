@@ -2,7 +2,7 @@
 -- Origin: the advancing front of Schoeberl 1997 and of Bonet and Peraire 1991. The code keeps points and lines in hashed tables; these are lists.
 use lib.IntN.{ℤ, pos, negsuc}
 use lib.Signed.{le_z}
-use Rattle.std.specs.Prelude.{◌≡◌, ◌⊎◌, ℕ, ◌+◌, ◌-◌, ◌*◌, ◌/◌, ◌^◌, ◌≤◌, Bool, false, ◌&&◌, ◌||◌, nat_eq, nat_lt, not, List, [], ◌∷◌, ◌++◌, length, map, filter, position, Option, Some, None, is_some}
+use Rattle.std.specs.Prelude.{◌≡◌, ◌⊎◌, ℕ, zero, suc, ◌+◌, ◌-◌, ◌*◌, ◌/◌, ◌^◌, ◌≤◌, Bool, false, ◌&&◌, ◌||◌, nat_eq, nat_lt, not, List, [], ◌∷◌, ◌++◌, length, map, filter, position, Option, is_some}
 use Rattle.std.specs.Option.{option_map, option_map_or}
 use Rattle.std.specs.List.{All, AllByRecursion, Contains, IsDistinct, find, list_any, after_first}
 use Rattle.grid_geom.specs.declared.Point.{Point}
@@ -12,7 +12,7 @@ use Rattle.grid_geom.specs.Bounds.{IsOnGrid}
 use Rattle.grid_geom.specs.Closed.{same_point}
 use Rattle.grid_geom.specs.Area.{shoelace}
 use Rattle.state_law.specs.Gluing.{MayBeGlued}
-use Rattle.state_law.specs.State.{State, point_at, pair_edge, front_edges, corners_of, glued, IsListed, IsNumbered, AreRising}
+use Rattle.state_law.specs.State.{State, point_at, pair_edge, front_edges, corners_of, IsListed, IsNumbered, AreRising}
 use Rattle.state_law.specs.Saved.{IsFrontPoint}
 use Rattle.state_law.specs.Region.{IsRegion, IsSettled}
 
@@ -99,7 +99,8 @@ pub record IsFrontState (f : FrontState) : Type 0 where
   -- points are different and on the grid, lines join listed points
   pub numbered : IsNumbered (state_of f)
   pub on_grid : All IsOnGrid f.points
-  -- line numbers rise and are below the next one
+  -- line numbers are at least 1, rise and are below the next one
+  pub positive : AllByRecursion (λ line. 1 ≤ line.0) f.lines
   pub rising : AreRising f.lines f.next
   -- the lines are closed, none tangles with another, and round each point off them they wind 0 times or once
   pub region : IsRegion (edges_of f)
@@ -122,9 +123,14 @@ pub record IsOpening (points : List Point) (lines : List (ℕ × ℕ)) : Type 0 
   pub region : IsRegion (map (pair_edge points) lines)
   pub bounded : length lines + 4 * or_zero (shoelace (map (pair_edge points) lines)) ≤ 2 ^ 64 - 2
 
--- the point is no end of a line
-abbrev pub is_idle : List (ℕ × ℕ × ℕ) → ℕ → Bool
-is_idle lines n = not (is_end lines n)
+-- the numbers from 1 to n
+abbrev pub numbers_to : ℕ → List ℕ
+numbers_to zero = []
+numbers_to (suc n) = numbers_to n ++ suc n ∷ []
+
+-- of the points with numbers from 1 to n, those that no line leaves: of closed lines, those that are no end of one
+abbrev pub idle_points : List (ℕ × ℕ × ℕ) → ℕ → List ℕ
+idle_points lines n = filter (λ k. not (list_any (λ line. nat_eq line.1 k) lines)) (numbers_to n)
 
 -- the element, by its corners' numbers, may be glued; it has three corners or four
 pub record IsGluable (f : FrontState) (ns : List ℕ) : Type 0 where

@@ -1,5 +1,5 @@
 -- The tables in which a front keeps its points and lines: what they stand for, and what is true of them.
-use Rattle.std.specs.Prelude.{◌≡◌, ℕ, ◌+◌, ◌-◌, ◌<◌, ◌≤◌, nat_eq, cond, List, [], ◌∷◌, length, slice_index, slice_index_or, Option, Some, None}
+use Rattle.std.specs.Prelude.{◌≡◌, ℕ, zero, suc, Bool, false, nat_lt, ◌+◌, ◌-◌, ◌<◌, ◌≤◌, nat_eq, cond, List, [], ◌∷◌, length, slice_index, slice_index_or, Option, Some, None}
 use Rattle.grid_geom.specs.declared.Point.{Point}
 use Rattle.state_law.specs.State.{IsListed}
 use Rattle.front_chain.specs.declared.chain.Side.{Side}
@@ -18,6 +18,11 @@ lines_from n (Some s ∷ made) = (n, s.from, s.to) ∷ lines_from (n + 1) made
 abbrev pub leaving_of : List (ℕ × ℕ × ℕ) → ℕ → ℕ
 leaving_of [] n = 0
 leaving_of (line ∷ lines) n = cond (nat_eq line.1 n) 1 0 + leaving_of lines n
+
+-- whether the count at this number is positive
+abbrev pub is_positive : List ℕ → ℕ → Bool
+is_positive leaving zero = false
+is_positive leaving (suc i) = nat_lt 0 (slice_index leaving i)
 
 -- the tables agree: `number` gives the number of the line with these ends
 pub record AreTables (points : List Point) (leaving : List ℕ) (made : List (Option Side)) (number : Side → Option ℕ) : Type 0 where

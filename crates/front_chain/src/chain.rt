@@ -1,10 +1,10 @@
 // The points and lines of a front in tables: each is found in one look, and a line joins or leaves at the same cost however long the front is.
-ghost use Rattle.std.specs.Prelude.{◌≡◌, ℕ, ◌+◌, ◌-◌, ◌<◌, ◌≤◌, nat_eq, List, [], ◌∷◌, ◌++◌, length, drop, Some, None, IfOk, OnOk, IsTrue};
-ghost use Rattle.std.specs.List.{find, list_any};
+ghost use Rattle.std.specs.Prelude.{◌≡◌, ℕ, ◌+◌, ◌-◌, ◌<◌, ◌≤◌, nat_eq, List, [], ◌∷◌, ◌++◌, length, drop, filter, not, Some, None, IfOk, OnOk, IsTrue};
+ghost use Rattle.std.specs.List.{AllByRecursion, find, list_any};
 ghost use Rattle.wind_law.specs.Chains.{edge};
 ghost use Rattle.state_law.specs.State.{IsListed, glue_line, next_after, point_at};
 ghost use Rattle.front_chain.specs.Front.{FrontState, IsWalk, line_at, number_between, number_above, number_of, is_near, does_meet, first_in_walk, next_in_walk, still_waiting};
-ghost use Rattle.front_chain.specs.Tables.{lines_from};
+ghost use Rattle.front_chain.specs.Tables.{lines_from, is_positive};
 
 use grid_geom::{Bounds, Point};
 use indexmap::{IndexMap, IndexSet};
@@ -36,7 +36,7 @@ pub struct Chain {
 impl Model for Chain {
     ghost use Rattle.std.specs.Prelude.{ℕ, ◌+◌, ◌-◌, min, length};
     ghost use Rattle.std.specs.Vec.{vec_len, vec_capacity};
-    ghost use Rattle.indexmap.specs.IndexMap.{get, values, spare as room_of_map};
+    ghost use Rattle.indexmap.specs.IndexMap.{get, values, spare as room_of_map, IsUnique};
     ghost use Rattle.indexmap.specs.IndexSet.{spare as room_of_set};
     ghost use Rattle.front_chain.specs.contracts.chain.SidePartialEq.TheImpl.{ghosts as side};
     ghost use Rattle.front_chain.specs.Front.{FrontState};
@@ -54,7 +54,7 @@ impl Model for Chain {
       spare_lines = min (room_of_map c.sides) (vec_capacity c.made - vec_len c.made);
     } };
 
-    ghost invariant = { λ c. AreTables c.places.keys c.leaving.items c.made.items (λ s. get side.eq c.sides s) };
+    ghost invariant = { λ c. AreTables c.places.keys c.leaving.items c.made.items (λ s. get side.eq c.sides s) × IsUnique side.eq c.sides };
 }
 
 /// The ends of the line with this number in a table by line numbers.
@@ -87,6 +87,13 @@ fn next_in(made: &[Option<Side>], after: u64) -> Option<u64>
         }
     }
     None
+}
+
+/// Whether a line leaves the point with this number, by how many leave each point.
+fn is_left(leaving: &[u64], n: u64) -> bool
+    ensures { result ≡ is_positive leaving.now n }
+{
+    n > 0 && n <= leaving.len() as u64 && leaving[n as usize - 1] > 0
 }
 
 /// Whether the box of a line from `a` to `b` meets the box `near`. Each test is made, so that nothing branches.
@@ -155,7 +162,7 @@ impl Chain {
     }
 
     /// Puts a line with these ends at the end of the front, with the next number.
-    fn join(&mut self, side: Side)
+    pub fn join(&mut self, side: Side)
         requires room { 0 < self.old.spare_lines }
         requires from { IsListed (length self.old.points) side.from }
         requires to { IsListed (length self.old.points) side.to }
@@ -261,20 +268,12 @@ impl Chain {
     pub fn leaves(&self, n: u64) -> bool
         ensures { result ≡ list_any (λ line. nat_eq line.1 n) self.now.lines }
     {
-        let listed = self.leaving.len() as u64;
-        if n == 0 {
-            return false;
-        }
-        if n > listed {
-            return false;
-        }
-        self.leaving[n as usize - 1] > 0
+        is_left(&self.leaving, n)
     }
 
     /// The number of lines.
     pub fn lines(&self) -> u64
-        ensures count { result ≡ length self.now.lines }
-        ensures walked { IsWalk self.now.walk self.now.lines }
+        ensures { result ≡ length self.now.lines }
     {
         self.sides.len() as u64
     }
@@ -289,6 +288,8 @@ impl Chain {
     /// These points wait no longer.
     pub fn use_points(&mut self, used: &[u64])
         ensures waiting { self.new.waiting ≡ still_waiting self.old.waiting used.now }
+        ensures walked { IsWalk self.new.walk self.new.lines }
+        ensures positive { AllByRecursion (λ line. 1 ≤ line.0) self.new.lines }
         ensures points { self.new.points ≡ self.old.points }
         ensures lines { self.new.lines ≡ self.old.lines }
         ensures next { self.new.next ≡ self.old.next }
@@ -297,6 +298,19 @@ impl Chain {
         ensures spare_lines { self.new.spare_lines ≡ self.old.spare_lines }
     {
         self.waiting.retain(|n| !used.contains(n));
+    }
+
+    /// No point waits that a line leaves.
+    pub fn use_starts(&mut self)
+        ensures waiting { self.new.waiting ≡ filter (λ n. not (list_any (λ line. nat_eq line.1 n) self.old.lines)) self.old.waiting }
+        ensures walked { IsWalk self.new.walk self.new.lines }
+        ensures positive { AllByRecursion (λ line. 1 ≤ line.0) self.new.lines }
+        ensures points { self.new.points ≡ self.old.points }
+        ensures lines { self.new.lines ≡ self.old.lines }
+        ensures next { self.new.next ≡ self.old.next }
+    {
+        let leaving = &self.leaving;
+        self.waiting.retain(|n| !is_left(leaving, *n));
     }
 
     /// The first line, from this place of the walk on, whose box meets `b`.

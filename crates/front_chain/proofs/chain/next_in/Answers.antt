@@ -1,5 +1,5 @@
-use Rattle.std.proofs.Common.{◌≡◌, ◌∙◌, ◌+◌, ◌≤◌, sym, arith, Some, None}
-use Rattle.front_chain.proofs.Above.{gone_above, found_above, found_some}
+use Rattle.std.proofs.Common.{◌∙◌, sym, arith}
+use Rattle.front_chain.proofs.Above.{gone_above, found_some}
 use Rattle.front_chain.proofs.chain.next_in.Goals as goal
 
 pub returns-then-after-made : goal.returns-then-after-made

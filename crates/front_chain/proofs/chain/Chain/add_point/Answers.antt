@@ -1,8 +1,6 @@
-use Rattle.std.proofs.Common.{◌≡◌, ◌∙◌, ◌++◌, ◌∷◌, [], sym, ap, subst, IfOk, List}
-use Rattle.grid_geom.specs.declared.Point.{Point}
+use Rattle.std.proofs.Common.{◌≡◌, ◌∙◌, ◌++◌, ◌∷◌, [], ap, subst, IfOk}
 use Rattle.indexmap.specs.IndexSet.{insert_key}
 use Rattle.front_chain.specs.Front.{number_of}
-use Rattle.front_chain.specs.Tables.{AreTables}
 use Rattle.front_chain.proofs.Places.{same_place, new_keys}
 use Rattle.front_chain.proofs.Tabled.{listed_at}
 use Rattle.front_chain.proofs.chain.Chain.add_point.Goals as goal
@@ -11,7 +9,7 @@ pub invariant_of-self : goal.invariant_of-self
 invariant_of-self c =
     let new = ap (λ v. number_of v.points c.args.p) c.self.view_is ∙ c.requires.new_place in
     let keys : c.insert.new.self.keys ≡ insert_key same_place c.self.inside.places.keys c.args.p = subst (λ r. IfOk r (λ _. c.insert.new.self.keys ≡ insert_key same_place c.self.inside.places.keys c.args.p)) c.unwrap.ensures c.insert.ensures.keys in
-    listed_at c.args.p c.self.invariant (keys ∙ new_keys c.args.p c.self.inside.places.keys new) c.push_reserved.ensures.items
+    (listed_at c.args.p c.self.invariant.0 (keys ∙ new_keys c.args.p c.self.inside.places.keys new) c.push_reserved.ensures.items, c.self.invariant.1)
 
 pub returns-clause-points : goal.returns-clause-points
 returns-clause-points c =

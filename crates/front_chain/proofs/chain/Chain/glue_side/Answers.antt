@@ -1,4 +1,4 @@
-use Rattle.std.proofs.Common.{◌≡◌, ◌∙◌, ◌+◌, ◌++◌, ◌∷◌, [], cond, sym, ap}
+use Rattle.std.proofs.Common.{◌∙◌, sym}
 use Rattle.front_chain.proofs.Sides.{next_left, next_joined, lines_joined}
 use Rattle.front_chain.proofs.chain.Chain.glue_side.Goals as goal
 

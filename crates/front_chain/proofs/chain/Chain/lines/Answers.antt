@@ -1,11 +1,8 @@
-use Rattle.std.proofs.Common.{◌≡◌, ◌∙◌, sym, ap, subst, length}
+use Rattle.std.proofs.Common.{◌∙◌, sym, ap, subst, length}
 use Rattle.std.proofs.lemmas.Map.Entries.{length-values_of}
 use Rattle.front_chain.specs.Front.{IsWalk}
 use Rattle.front_chain.proofs.Walks.{walk_is, walk_length}
 use Rattle.front_chain.proofs.chain.Chain.lines.Goals as goal
 
-pub returns-clause-count : goal.returns-clause-count
-returns-clause-count c = c.len.ensures.len ∙ sym (length-values_of c.self.inside.sides.entries) ∙ walk_length _ c.self.inside.made.items (walk_is c.self.inside.made.items c.self.inside.sides.entries c.self.invariant c.len.ensures.unique) ∙ ap (λ v. length v.lines) c.self.view_is
-
-pub returns-clause-walked : goal.returns-clause-walked
-returns-clause-walked c = subst (λ v. IsWalk v.walk v.lines) c.self.view_is (walk_is c.self.inside.made.items c.self.inside.sides.entries c.self.invariant c.len.ensures.unique)
+pub returns : goal.returns
+returns c = c.len.ensures.len ∙ sym (length-values_of c.self.inside.sides.entries) ∙ walk_length _ c.self.inside.made.items (walk_is c.self.inside.made.items c.self.inside.sides.entries c.self.invariant.0 c.self.invariant.1) ∙ ap (λ v. length v.lines) c.self.view_is

@@ -1,8 +1,7 @@
-use Rattle.std.proofs.Common.{◌≡◌, ◌∙◌, ◌+◌, sym, ap, subst, drop, length, arith}
+use Rattle.std.proofs.Common.{◌∙◌, ◌+◌, sym, ap, subst, drop, length, arith}
 use Rattle.std.specs.List.{find}
 use Rattle.std.specs.Option.{option_map}
 use Rattle.std.specs.Map.Iter.{deref_pair}
-use Rattle.std.proofs.lemmas.Map.Entries.{length-values_of}
 use Rattle.state_law.specs.State.{IsListed}
 use Rattle.front_chain.specs.Front.{is_near}
 use Rattle.front_chain.proofs.Walks.{entered, entry_listed, near_ends, find_here, find_further, find_past}
@@ -14,7 +13,7 @@ point-requires c =
     let es = c.self.inside.sides.entries in
     let entry = sym c.get_index.ensures.entry ∙ ap (option_map deref_pair) c.unwrap.ensures in
     subst (λ n. IsListed n c.unwrap.result.0.now.from) (ap (λ v. length v.points) c.self.view_is)
-    (entry_listed made es c.self.invariant (entered made es c.self.invariant c.len-place-end.ensures.unique) c.loop-place.place c.unwrap.result.0.now c.unwrap.result.1.now entry).0
+    (entry_listed made es c.self.invariant.0 (entered made es c.self.invariant.0 c.len-place-end.ensures.unique) c.loop-place.place c.unwrap.result.0.now c.unwrap.result.1.now entry).0
 
 pub point-requires-in-loop-place : goal.point-requires-in-loop-place
 point-requires-in-loop-place c =
@@ -22,14 +21,14 @@ point-requires-in-loop-place c =
     let es = c.self.inside.sides.entries in
     let entry = sym c.get_index.ensures.entry ∙ ap (option_map deref_pair) c.unwrap.ensures in
     subst (λ n. IsListed n c.unwrap.result.0.now.to) (ap (λ v. length v.points) c.self.view_is)
-    (entry_listed made es c.self.invariant (entered made es c.self.invariant c.len-place-end.ensures.unique) c.loop-place.place c.unwrap.result.0.now c.unwrap.result.1.now entry).1
+    (entry_listed made es c.self.invariant.0 (entered made es c.self.invariant.0 c.len-place-end.ensures.unique) c.loop-place.place c.unwrap.result.0.now c.unwrap.result.1.now entry).1
 
 pub returns-then-meets : goal.returns-then-meets
 returns-then-meets c =
     let made = c.self.inside.made.items in
     let es = c.self.inside.sides.entries in
     let entry = sym c.get_index.ensures.entry ∙ ap (option_map deref_pair) c.unwrap.ensures in
-    let near = near_ends c.args.self.now c.args.b.now made es (entered made es c.self.invariant c.len-place-end.ensures.unique) (ap (λ v. v.lines) c.self.view_is) c.loop-place.place c.unwrap.result.0.now c.unwrap.result.1.now entry
+    let near = near_ends c.args.self.now c.args.b.now made es (entered made es c.self.invariant.0 c.len-place-end.ensures.unique) (ap (λ v. v.lines) c.self.view_is) c.loop-place.place c.unwrap.result.0.now c.unwrap.result.1.now entry
     c.point.result c.point-in-loop-place.result c.point.ensures c.point-in-loop-place.ensures ∙ sym c.meets.ensures ∙ c.if-meets.true in
     sym (c.loop-place.invariant ∙ ap (λ v. find (is_near c.args.self.now c.args.b.now) (drop c.loop-place.place v.walk)) (sym c.self.view_is)
     ∙ find_here (is_near c.args.self.now c.args.b.now) es c.loop-place.place c.unwrap.result.0.now c.unwrap.result.1.now entry near)
@@ -39,7 +38,7 @@ loop-place-preserved c =
     let made = c.self.inside.made.items in
     let es = c.self.inside.sides.entries in
     let entry = sym c.get_index.ensures.entry ∙ ap (option_map deref_pair) c.unwrap.ensures in
-    let near = near_ends c.args.self.now c.args.b.now made es (entered made es c.self.invariant c.len-place-end.ensures.unique) (ap (λ v. v.lines) c.self.view_is) c.loop-place.place c.unwrap.result.0.now c.unwrap.result.1.now entry
+    let near = near_ends c.args.self.now c.args.b.now made es (entered made es c.self.invariant.0 c.len-place-end.ensures.unique) (ap (λ v. v.lines) c.self.view_is) c.loop-place.place c.unwrap.result.0.now c.unwrap.result.1.now entry
     c.point.result c.point-in-loop-place.result c.point.ensures c.point-in-loop-place.ensures ∙ sym c.meets.ensures ∙ c.if-meets.false in
     c.loop-place.invariant ∙ ap (λ v. find (is_near c.args.self.now c.args.b.now) (drop c.loop-place.place v.walk)) (sym c.self.view_is)
     ∙ find_further (is_near c.args.self.now c.args.b.now) es c.loop-place.place c.unwrap.result.0.now c.unwrap.result.1.now entry near
