@@ -5,7 +5,7 @@ ghost use Rattle.std.specs.Prelude.{◌≡◌, ℕ, ℤ, pos, ◌≤◌, length}
 ghost use Rattle.grid_geom.specs.declared.Point.{Point};
 ghost use Rattle.rule_maps.specs.Fractions.{Fraction, IsFraction, IsNearest, IsWithinOf, nearest};
 ghost use Rattle.rule_maps.specs.Frame.{LocalFrame, IsFrameOf, IsFrame, IsInRange, local_x, local_y};
-ghost use Rattle.rule_maps.specs.Places.{Mapping, IsMapping, new_point, corner};
+ghost use Rattle.rule_maps.specs.Places.{Mapping, IsMapping, IsCopyOf, mapped_at, place_at, narrowest, new_point, corner};
 ghost use Rattle.rule_maps.specs.Inert.{HasBadZone};
 ghost use Rattle.rule_maps.specs.Reach.{Covers, IsInReach};
 
@@ -33,4 +33,10 @@ pub fn law_reach()
     ensures new_points { (m : Mapping) (n k : ℕ) → IsMapping m → Covers m.rule n → 1 ≤ k → k ≤ length m.rule.new_points → IsInReach m.frame n (new_point m k) }
     ensures corners { (m : Mapping) (n k class : ℕ) → IsMapping m → Covers m.rule n → ¬ HasBadZone m.rule → 1 ≤ k → k ≤ length m.rule.area → 1 ≤ class →
         IsInReach m.frame n (corner m k class) }
+{}
+
+/// A corner that copies a mapped point, in each shape of the zone that it is placed from, is exactly at that point, at each class.
+pub fn law_exact()
+    ensures { (m : Mapping) (k j class : ℕ) → IsFrame m.frame → 1 ≤ class → IsCopyOf m.rule.points j (place_at m.rule.area k) →
+        IsCopyOf m.rule.points j (place_at (narrowest m.rule.area m.rule.limit) k) → corner m k class ≡ mapped_at m.mapped j }
 {}
