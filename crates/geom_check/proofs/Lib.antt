@@ -9,7 +9,10 @@ pub mod PlacedGrid
 pub mod DomainNumbers
 pub mod KeptSizes
 -- Pairs of points and of segments, and boundaries that are closed.
+pub mod Reordered
 pub mod LeastPairs
+pub mod Untangled
+pub mod PlaceKeys
 pub mod Closing
 -- Risers, which are segments turned upwards: winding numbers by them, where they are and in which order.
 pub mod RiserWinding
@@ -21,7 +24,6 @@ pub mod EdgesTurned
 pub mod Together
 pub mod FarLeft
 -- A strip: the risers that pass it, gathered, sorted and walked over, and the winding numbers between them.
-pub mod Reordered
 pub mod Splits
 pub mod StripWinding
 pub mod Gathering

@@ -2,6 +2,7 @@
 -- Shift: numbers of a file moved to the grid. Placed: rows of a file moved to the grid. Boundary: the edges round a domain. Domains: the domains that segments name.
 -- Geometry: what an accepted geometry keeps of its file. Risers, RiserOrder: segments turned upwards, and their order from left to right.
 -- Gaps: the gap to the right of a riser. Strips: the gaps between the edges. Accepted: which geometries are accepted. Refused: why a geometry is refused.
+-- Spans: edges with their boxes. Places: places of the grid by one number.
 pub mod Shift
 pub mod Placed
 pub mod Boundary
@@ -13,3 +14,5 @@ pub mod Risers
 pub mod RiserOrder
 pub mod Geometry
 pub mod Gaps
+pub mod Spans
+pub mod Places

@@ -9,6 +9,7 @@ use crate::kinds::Segment;
 use crate::limits::MOST_DOMAINS;
 use grid_geom::{Edge, Point};
 use std::alloc::{AllocError as OutOfMemory, Global};
+use wind_law::closed;
 
 /// The number, from 1, of the first segment with one domain on both sides.
 pub fn same_sides(segments: &[Segment]) -> Option<u64>
@@ -108,7 +109,7 @@ fn is_balanced(edges: &[Edge], at: &Point) -> bool
 }
 
 /// The number, from 1, of the first point that edges leave more or less often than they arrive.
-pub fn open_at(points: &[Point], edges: &[Edge]) -> Option<u64>
+fn open_at(points: &[Point], edges: &[Edge]) -> Option<u64>
     ensures found { IfSome result (λ n. IsFirstFailing (λ p. leaving p edges.now
         ≡ arriving p edges.now) points.now n) }
     ensures none { IfNone result (All (λ p. leaving p edges.now
@@ -120,6 +121,19 @@ pub fn open_at(points: &[Point], edges: &[Edge]) -> Option<u64>
         }
     }
     None
+}
+
+/// The same, if there is such a point. That there is none is found by sorting the edges' ends.
+fn open_point(alloc: Global, points: &[Point], edges: &[Edge]) -> Result<Option<u64>, OutOfMemory>
+    ensures found { IfOk result (λ found. IfSome found (λ n. IsFirstFailing
+        (λ p. leaving p edges.now ≡ arriving p edges.now) points.now n)) }
+    ensures none { IfOk result (λ found. IfNone found
+        (All (λ p. leaving p edges.now ≡ arriving p edges.now) points.now)) }
+{
+    if closed(alloc, edges)? {
+        return Ok(None);
+    }
+    Ok(open_at(points, edges))
 }
 
 /// The least domain whose boundary is open, and the number, from 1, of the first point at which it
@@ -136,7 +150,7 @@ pub fn first_open(
 {
     for domain in 1..MOST_DOMAINS + 1 {
         let edges = round(alloc, points, segments, domain)?;
-        if let Some(point) = open_at(points, &edges) {
+        if let Some(point) = open_point(alloc, points, &edges)? {
             return Ok(Some((point, domain)));
         }
     }

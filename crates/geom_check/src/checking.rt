@@ -14,10 +14,11 @@ use crate::domains::domains;
 use crate::geometry::Geometry;
 use crate::kinds::{Domains, Segment, Source, Sources};
 use crate::limits::MOST_ROWS;
-use crate::pairs::{tangled, together};
+use crate::places::first_together;
 use crate::placing::{Placed, place};
 use crate::refusal::GeomRefusal;
 use crate::scale::Scale;
+use crate::spans::first_tangled;
 use crate::windings::check_windings;
 use grid_geom::Point;
 use in2d_reader::{PointRow, RawGeometry, SegmentRow};
@@ -31,13 +32,14 @@ fn names_domain(rows: &[SegmentRow]) -> bool
 }
 
 /// The first fault of points, and of segments by themselves.
-fn check_rows(points: &[Point], segments: &[Segment]) -> Result<(), GeomRefusal>
+fn check_rows(alloc: Global, points: &[Point], segments: &[Segment]) -> Result<(), GeomRefusal>
+    requires { All IsOnGrid points.now }
     ensures places { OnOk result (ArePlacesDifferent points.now) }
     ensures sides { OnOk result (All HasDifferentDomains segments.now) }
     ensures ends { OnOk result (All HasTwoEnds segments.now) }
     ensures refused { IfErr result (IsFaultOrMemory points.now segments.now) }
 {
-    if let Some((i, j)) = together(points) {
+    if let Some((i, j)) = first_together(alloc, points)? {
         return Err(GeomRefusal::SamePlace { i, j });
     }
     if let Some(segment) = same_sides(segments) {
@@ -57,9 +59,9 @@ fn check_grid(alloc: Global, points: &[Point], segments: &[Segment]) -> Result<(
     ensures planar { OnOk result (IsPlanar points.now segments.now) }
     ensures refused { IfErr result (IsFaultOrMemory points.now segments.now) }
 {
-    check_rows(points, segments)?;
+    check_rows(alloc, points, segments)?;
     let edges = edges(alloc, points, segments)?;
-    if let Some((i, j)) = tangled(&edges) {
+    if let Some((i, j)) = first_tangled(alloc, &edges)? {
         return Err(GeomRefusal::Meet { i, j });
     }
     if let Some((point, domain)) = first_open(alloc, points, segments)? {

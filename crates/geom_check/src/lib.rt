@@ -23,10 +23,12 @@ mod kinds;
 pub mod laws;
 mod limits;
 mod pairs;
+mod places;
 mod placing;
 mod refusal;
 mod risers;
 mod scale;
+mod spans;
 mod strips;
 mod windings;
 
@@ -34,7 +36,6 @@ pub use checking::check;
 pub use domains::domain_numbers;
 pub use geometry::Geometry;
 pub use kinds::{Domain, Domains, Segment, Segments, Source, Sources};
-pub use placing::{Placed, place};
 pub use refusal::GeomRefusal;
 
 #[cfg(test)]

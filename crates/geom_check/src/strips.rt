@@ -32,7 +32,7 @@ pub struct Fraction {
 }
 
 /// How far a point is from the left end of the grid.
-fn from_left(p: &Point) -> u64
+pub fn from_left(p: &Point) -> u64
     requires { IsOnGrid p.now }
     ensures value { pos result ≡ p.now.x +ℤ GRID }
     ensures small { result ≤ WIDTH }
@@ -255,7 +255,7 @@ pub fn lowest_fault(
 }
 
 /// The height of a point above the bottom of the grid.
-fn level(p: &Point) -> u64
+pub fn level(p: &Point) -> u64
     requires { IsOnGrid p.now }
     ensures value { pos result ≡ p.now.y +ℤ GRID }
     ensures small { result ≤ WIDTH }

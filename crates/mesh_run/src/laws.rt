@@ -12,6 +12,7 @@ ghost use Rattle.geom_check.specs.Boundary.{boundary, point_at};
 ghost use Rattle.grid_geom.specs.Plane.{IsRational};
 ghost use Rattle.geom_check.specs.Geometry.{PlanarMap, IsGeometry};
 ghost use Rattle.size_field.specs.declared.pieces.Piece.{Piece};
+ghost use Rattle.state_law.specs.Region.{IsRegion};
 ghost use Rattle.size_field.specs.Cutting.{pieces_of};
 ghost use Rattle.size_field.specs.Parts.{AreUntangled, AreOneOrApart};
 ghost use Rattle.mesh_run.specs.Boundary.{piece_boundary, whole_pieces, IsNumberTo, IsPieceOnGrid};
@@ -37,7 +38,8 @@ pub fn law_uncut()
 
 /// Where the segments of an accepted geometry are cut, the front with which a domain begins winds at
 /// every rational point as the domain's boundary in segments does. Its lines have two ends and don't
-/// tangle; and of the lines of two domains each two are the same, reversed, or don't tangle.
+/// tangle; and of the lines of two domains each two are the same, reversed, or don't tangle. It is a
+/// region: closed, and winding 0 times or once round each point off its lines.
 pub fn law_cut()
     ensures winds { (g : PlanarMap) (greatest grading d : ℕ) (q : RatPoint) → IsGeometry g → IsRational q →
         wind q (front_edges (unmeshed_run d g.segments (pieces_of g greatest grading))) ≡ wind q (boundary g.points d g.segments) }
@@ -45,6 +47,8 @@ pub fn law_cut()
         AreUntangled (front_edges (unmeshed_run d g.segments (pieces_of g greatest grading))) }
     ensures two { (g : PlanarMap) (greatest grading c d : ℕ) → IsGeometry g →
         AreOneOrApart (front_edges (unmeshed_run c g.segments (pieces_of g greatest grading))) (front_edges (unmeshed_run d g.segments (pieces_of g greatest grading))) }
+    ensures region { (g : PlanarMap) (greatest grading d : ℕ) → IsGeometry g → 0 < d →
+        IsRegion (front_edges (unmeshed_run d g.segments (pieces_of g greatest grading))) }
 {}
 
 /// Points by first occurrence are different points, the same ones that were given, and each is the one with its number. The one that occurs first has the smaller number.

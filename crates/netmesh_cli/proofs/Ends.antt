@@ -21,7 +21,7 @@ use Rattle.geom_check.specs.Domains.{domain_numbers, sides_of}
 use Rattle.mesh_run.specs.Whole.{is_stopped, is_stuck}
 use Rattle.mesh_run.proofs.Bounded.{front_is_boundary, whole_boundary}
 use Rattle.geom_check.proofs.DomainNumbers.{numbers_named}
-use Rattle.netmesh_cli.specs.Accepted.{run_of}
+use Rattle.netmesh_cli.specs.Run.{MeshInput, run_of}
 use Rattle.netmesh_cli.proofs.Works.{run_in}
 
 -- ---- a domain that is named has a boundary
@@ -114,8 +114,9 @@ among_numbers ss d positive named = numbers_named ss d ∙ both (nat_eq d 0) _ (
 ended : (a b : Bool) → a ≡ false → b ≡ true → (if a then Stopped else (if b then Stuck else Done)) ≡ Stuck
 ended a b e h = rw (e, h) refl
 
-pub accepted_stuck : (raw : RawGeometry) (g : PlanarMap) → IsGeometryOf raw g → (run_of g).end ≡ Stuck
-accepted_stuck raw g is =
+pub accepted_stuck : (raw : RawGeometry) (input : MeshInput) → IsGeometryOf raw input.geometry → (run_of input).end ≡ Stuck
+accepted_stuck raw input is =
+    let g = input.geometry in
     let some = is.accepted.domain in
     let of_file = named_at g.shift raw.points 1 raw.segments some.0 some.1 some.2 some.3 some.4 in
     let found : IsNamed g.segments = subst IsNamed (sym is.segments) of_file in

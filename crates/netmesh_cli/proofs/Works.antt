@@ -19,7 +19,7 @@ use Rattle.mesh_run.specs.Opening.{unmeshed_run, front_edges}
 use Rattle.geom_check.specs.Domains.{domain_numbers, with_domain, sides_of, IsRising}
 use Rattle.mesh_run.proofs.Bounded.{front_is_boundary, whole_boundary}
 use Rattle.geom_check.proofs.DomainNumbers.{numbers_rise}
-use Rattle.netmesh_cli.specs.Accepted.{IsOffSegments, IsWound, DoBothWind, IsCovered}
+use Rattle.netmesh_cli.specs.Run.{MeshInput, IsOffSegments, IsWound, DoBothWind, IsCovered}
 
 -- the numbers of domains are above 0
 abbrev IsPositive : ℕ → Type 0
@@ -59,8 +59,8 @@ all_apart g planar q off (c ∷ ds) positive rising = AllPairs-cons (λ c d. ¬ 
     (All-map (λ d. ¬ DoBothWind q (run_in g c) d) (run_in g) ds (λ k d inside. apart g planar q off c _ (All-head IsPositive c ds positive) (rising.0 k d inside)))
     (all_apart g planar q off ds (All-tail IsPositive c ds positive) rising.1)
 
-pub run_covered : (g : PlanarMap) → IsPlanar g.points g.segments → IsCovered g
-run_covered g planar = record {
+pub run_covered : (input : MeshInput) → IsPlanar input.geometry.points input.geometry.segments → IsCovered input
+run_covered input planar = let g = input.geometry in record {
   wound = All-map (IsWound g) (run_in g) (domain_numbers g.segments) (λ k d inside. wound g planar _ (numbers_positive g.segments k d inside));
   separate = λ q off. all_apart g planar q off (domain_numbers g.segments) (numbers_positive g.segments) (numbers_rise g.segments);
 }

@@ -1,6 +1,7 @@
 -- What the code of `frame` computes: ways and their products, the length of a way. Stands on Numbers and grid_geom's Within.
 use lib.IntN.{ℤ, pos, ◌+ℤ◌, ◌-ℤ◌, ◌*ℤ◌}
-use lib.Signed.{◌<ℤ◌, ◌≤ℤ◌}
+use lib.Signed.{◌<ℤ◌, ◌≤ℤ◌, le_z}
+use mathlib.Core.Bool.{true, false}
 use Prim.Native.Nat.{ℕ, ◌≤◌}
 use mathlib.Core.Path.{◌≡◌, refl, sym, ap, ◌∙◌, subst}
 use mathlib.Core.Logic.{inl, inr}
@@ -9,6 +10,7 @@ use Rattle.std.specs.Int.{int_max, int_min, int_div_euclid}
 use Rattle.std.proofs.lemmas.Int.{ints, to_z-of_z, to_z_pos, int_max_is, int_min_is}
 use Rattle.grid_geom.specs.declared.TheConstants.{GRID, LONGEST}
 use Rattle.grid_geom.proofs.Signs.{nn_mul, np_mul, pos_mul, neg_mul_neg, either, ordered}
+use Rattle.grid_geom.proofs.Booleans.{le_true, true_le, clash}
 use Rattle.grid_geom.proofs.Quotients.{floor_least, floor_greatest, IsRounded, rounded_within}
 use mir.Val.{SFits, to_z, of_z}
 use mir.Syntax.{w64, w128}
@@ -16,7 +18,7 @@ use Rattle.grid_geom.specs.declared.Point.{Point}
 use Rattle.grid_geom.specs.Bounds.{IsWithin, IsOnGrid}
 use Rattle.grid_geom.proofs.Within.{within_mul, back_product}
 use Rattle.rule_maps.specs.declared.frame.TheConstants.{OFFSET, TURN, LONG, HIGH, UNIT}
-use Rattle.rule_maps.specs.Frame.{LocalFrame, way, dot, cross, half, height, in_units, IsWay, IsRoot, IsBase, IsFrameOf, IsFrame}
+use Rattle.rule_maps.specs.Frame.{LocalFrame, way, dot, cross, half, height, in_units, IsWay, IsRoot, IsBase, IsFrameOf, IsFrame, IsHeight}
 use Rattle.rule_maps.proofs.Numbers.{within_add, within_sub, fits64, fits128, root_at_most}
 use Rattle.rule_maps.proofs.Rounding.{nearest_is}
 
@@ -99,10 +101,6 @@ pub length_small : {z r : ℤ} → IsLength z r → cast64 (cast128 r) ≤ℤ LO
 length_small {z} {r} h = rw h.back h.small
 
 -- ---- the height
-pub record IsHeight (n : ℤ) : Type 0 where
-  pub least : pos 1 ≤ℤ n
-  pub greatest : n ≤ℤ HIGH
-
 pub height_bounds : (len : ℤ) (size : ℕ) → pos 1 ≤ℤ len → len ≤ℤ LONG → 1 ≤ size → size ≤ LONGEST → IsHeight (height len (pos size))
 height_bounds len size hl hm hs ht = record {
   least = omega (arith, ints, int_min_is (int_max (pos size) (half (len +ℤ pos 1))) (pos 3 *ℤ len), int_max_is (pos size) (half (len +ℤ pos 1)), halved);
@@ -302,3 +300,56 @@ pub in_units_code : (f : LocalFrame) → HasBounds f → (top r : ℤ) → IsWit
     (pos 2 *ℤ cast128 (cast64 f.q) *ℤ r) ≤ℤ (pos 2 *ℤ cast128 (pos 10000 *ℤ cast128 (cast64 top)) +ℤ cast128 (cast64 f.q)) →
     (pos 2 *ℤ cast128 (pos 10000 *ℤ cast128 (cast64 top)) +ℤ cast128 (cast64 f.q)) <ℤ (pos 2 *ℤ cast128 (cast64 f.q) *ℤ (r +ℤ pos 1)) → IsInUnits top f.q r
 in_units_code f b top r ht hq h j = in_units_back top f.q r b.unit_least hq (subst (λ (n : ℤ). IsRounded n f.q r) (units_inner top ht) (subst (λ (d : ℤ). IsRounded (cast128 (pos 10000 *ℤ cast128 (cast64 top))) d r) (unit_inner f b) (record { least = h; greatest = j })))
+
+-- ---- one frame
+one_root : (z n m : ℤ) → IsRoot z n → IsRoot z m → n ≡ m
+one_root z n m h j = omega (arith, ints, root_at_most z n m h.not_negative j.not_negative h.least j.greatest, root_at_most z m n j.not_negative h.not_negative j.least h.greatest)
+
+pub one_frame : (p1 p2 : Point) (size : ℕ) (f g : LocalFrame) → IsFrameOf p1 p2 size f → IsFrameOf p1 p2 size g → f ≡ g
+one_frame p1 p2 size f g h j = same f g (h.start ∙ sym j.start) direction length high (h.unit ∙ ap (λ (n : ℤ). n *ℤ f.h) length ∙ ap (λ (n : ℤ). g.len *ℤ n) high ∙ sym j.unit) (same_point f.middle g.middle (h.middle_x ∙ sym j.middle_x) (h.middle_y ∙ sym j.middle_y))
+  where
+    same_point : (a b : Point) → a.x ≡ b.x → a.y ≡ b.y → a ≡ b
+    same_point a b u v = ap (λ (x : ℤ). record { x = x; y = a.y }) u ∙ ap (λ (y : ℤ). record { x = b.x; y = y }) v
+
+    direction : f.e ≡ g.e
+    direction = h.direction ∙ sym j.direction
+
+    length : f.len ≡ g.len
+    length = one_root (dot g.e g.e) f.len g.len (subst (λ (e : Point). IsRoot (dot e e) f.len) direction h.length) j.length
+
+    high : f.h ≡ g.h
+    high = h.high ∙ ap (λ (n : ℤ). height n (pos size)) length ∙ sym j.high
+
+    same : (f g : LocalFrame) → f.p1 ≡ g.p1 → f.e ≡ g.e → f.len ≡ g.len → f.h ≡ g.h → f.q ≡ g.q → f.middle ≡ g.middle → f ≡ g
+    same f g a b c d e i =
+        ap (λ (p : Point). record { p1 = p; e = f.e; len = f.len; h = f.h; q = f.q; middle = f.middle }) a
+        ∙ ap (λ (p : Point). record { p1 = g.p1; e = p; len = f.len; h = f.h; q = f.q; middle = f.middle }) b
+        ∙ ap (λ (z : ℤ). record { p1 = g.p1; e = g.e; len = z; h = f.h; q = f.q; middle = f.middle }) c
+        ∙ ap (λ (z : ℤ). record { p1 = g.p1; e = g.e; len = g.len; h = z; q = f.q; middle = f.middle }) d
+        ∙ ap (λ (z : ℤ). record { p1 = g.p1; e = g.e; len = g.len; h = g.h; q = z; middle = f.middle }) e
+        ∙ ap (λ (p : Point). record { p1 = g.p1; e = g.e; len = g.len; h = g.h; q = g.q; middle = p }) i
+
+-- ---- nearness
+-- an offset and a height without casts
+pub record IsOffset (a b h : ℤ) : Type 0 where
+  pub offset : cast64 (cast64 a -ℤ cast64 b) ≡ a -ℤ b
+  pub far : cast64 (pos 4 *ℤ cast64 h) ≡ pos 4 *ℤ h
+  pub back : cast64 (pos 0 -ℤ cast64 (pos 4 *ℤ cast64 h)) ≡ pos 0 -ℤ pos 4 *ℤ h
+
+offset_is : (a b h : ℤ) → IsWithin GRID a → IsWithin GRID b → IsHeight h → IsOffset a b h
+offset_is a b h ha hb hh = let fa : SFits w64 a = fits64 GRID a (omega (arith, ints)) ha in let fb : SFits w64 b = fits64 GRID b (omega (arith, ints)) hb in let fh : SFits w64 h = omega (arith, ints, hh.least, hh.greatest) in
+    let fo : SFits w64 (a -ℤ b) = fits64 (GRID +ℤ GRID) (a -ℤ b) (omega (arith, ints)) (within_sub GRID GRID a b ha hb) in let ff : SFits w64 (pos 4 *ℤ h) = omega (arith, ints, hh.least, hh.greatest) in let fl : SFits w64 (pos 0 -ℤ pos 4 *ℤ h) = omega (arith, ints, hh.least, hh.greatest) in
+    record { offset = simp to_z-of_z; far = simp to_z-of_z; back = simp to_z-of_z }
+
+-- both tests of the code
+pub near_then : (a b h : ℤ) → IsWithin GRID a → IsWithin GRID b → IsHeight h → le_z (cast64 (pos 0 -ℤ cast64 (pos 4 *ℤ cast64 h))) (cast64 (cast64 a -ℤ cast64 b)) ≡ true → (le_z (cast64 (cast64 a -ℤ cast64 b)) (cast64 (pos 4 *ℤ cast64 h)) ≡ true → IsWithin (pos 4 *ℤ h) (a -ℤ b)) × (IsWithin (pos 4 *ℤ h) (a -ℤ b) → le_z (cast64 (cast64 a -ℤ cast64 b)) (cast64 (pos 4 *ℤ cast64 h)) ≡ true)
+near_then a b h ha hb hh t = let k : IsOffset a b h = offset_is a b h ha hb hh in (
+  λ u. record { least = omega (arith, ints, le_true (cast64 (pos 0 -ℤ cast64 (pos 4 *ℤ cast64 h))) (cast64 (cast64 a -ℤ cast64 b)) t, k.offset, k.back); greatest = omega (arith, ints, le_true (cast64 (cast64 a -ℤ cast64 b)) (cast64 (pos 4 *ℤ cast64 h)) u, k.offset, k.far) },
+  λ w. true_le (cast64 (cast64 a -ℤ cast64 b)) (cast64 (pos 4 *ℤ cast64 h)) (omega (arith, ints, w.greatest, k.offset, k.far)),
+)
+
+pub near_else : (a b h : ℤ) → IsWithin GRID a → IsWithin GRID b → IsHeight h → le_z (cast64 (pos 0 -ℤ cast64 (pos 4 *ℤ cast64 h))) (cast64 (cast64 a -ℤ cast64 b)) ≡ false → (le_z (cast64 (pos 0 -ℤ cast64 (pos 4 *ℤ cast64 h))) (cast64 (cast64 a -ℤ cast64 b)) ≡ true → IsWithin (pos 4 *ℤ h) (a -ℤ b)) × (IsWithin (pos 4 *ℤ h) (a -ℤ b) → le_z (cast64 (pos 0 -ℤ cast64 (pos 4 *ℤ cast64 h))) (cast64 (cast64 a -ℤ cast64 b)) ≡ true)
+near_else a b h ha hb hh f = let k : IsOffset a b h = offset_is a b h ha hb hh in (
+  λ u. absurd (clash (le_z (cast64 (pos 0 -ℤ cast64 (pos 4 *ℤ cast64 h))) (cast64 (cast64 a -ℤ cast64 b))) f u),
+  λ w. true_le (cast64 (pos 0 -ℤ cast64 (pos 4 *ℤ cast64 h))) (cast64 (cast64 a -ℤ cast64 b)) (omega (arith, ints, w.least, k.offset, k.back)),
+)

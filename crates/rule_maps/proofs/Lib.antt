@@ -17,3 +17,5 @@ pub mod Compiling
 pub mod Balance
 pub mod Idle
 pub mod Reaches
+-- Reach: what a rule uses lies in it.
+pub mod InReach

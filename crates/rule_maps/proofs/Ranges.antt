@@ -13,7 +13,8 @@ use Rattle.grid_geom.specs.Bounds.{IsWithin}
 use Rattle.grid_geom.proofs.Ring.{var, num, ◌⊕◌, ◌⊖◌, ◌⊗◌, ring}
 use Rattle.grid_geom.proofs.Signs.{nn_mul, np_mul, either}
 use Rattle.grid_geom.proofs.Within.{within_mul}
-use Rattle.rule_maps.specs.Frame.{LocalFrame, IsFrame, IsInRange, way, dot, cross}
+use Rattle.rule_maps.specs.Fractions.{IsFraction, IsWithinOf}
+use Rattle.rule_maps.specs.Frame.{LocalFrame, IsFrame, IsInRange, way, dot, cross, local_x, local_y}
 use Rattle.rule_maps.proofs.Numbers.{within_add, within_sub, root_at_most}
 use Rattle.rule_maps.proofs.Frames.{HasBounds, frame_bounds}
 
@@ -39,6 +40,9 @@ size_square z = elim (either (pos 0) z) [
     turned : z <ℤ pos 0 → size_of z ≡ pos 0 -ℤ z
     turned i = omega (arith, ints, i, int_max_is z (pos 0 -ℤ z))
 
+pub squares_of : (f : LocalFrame) → size_of f.e.x *ℤ size_of f.e.x +ℤ size_of f.e.y *ℤ size_of f.e.y ≡ dot f.e f.e
+squares_of f = rw (size_square f.e.x, size_square f.e.y) refl
+
 -- x and y are the extents of a base line of length len and height h
 pub record IsExtent (len h x y : ℤ) : Type 0 where
   pub x_positive : pos 0 ≤ℤ x
@@ -49,19 +53,16 @@ pub record IsExtent (len h x y : ℤ) : Type 0 where
   pub least : (len *ℤ len) ≤ℤ (x *ℤ x +ℤ y *ℤ y)
   pub greatest : (x *ℤ x +ℤ y *ℤ y) <ℤ ((len +ℤ pos 1) *ℤ (len +ℤ pos 1))
 
-pub extent_of : (f : LocalFrame) → HasBounds f → IsExtent f.len f.h (size_of f.e.x) (size_of f.e.y)
-extent_of f b = record {
+pub extent_of_frame : (f : LocalFrame) → HasBounds f → IsExtent f.len f.h (size_of f.e.x) (size_of f.e.y)
+extent_of_frame f b = record {
   x_positive = size_positive f.e.x;
   y_positive = size_positive f.e.y;
   long = b.long;
   high = b.high.least;
   half_length = b.half_length;
-  least = subst (λ (z : ℤ). (f.len *ℤ f.len) ≤ℤ z) (sym squares) b.square.least;
-  greatest = subst (λ (z : ℤ). z <ℤ ((f.len +ℤ pos 1) *ℤ (f.len +ℤ pos 1))) (sym squares) b.square.greatest;
+  least = subst (λ (z : ℤ). (f.len *ℤ f.len) ≤ℤ z) (sym (squares_of f)) b.square.least;
+  greatest = subst (λ (z : ℤ). z <ℤ ((f.len +ℤ pos 1) *ℤ (f.len +ℤ pos 1))) (sym (squares_of f)) b.square.greatest;
 }
-  where
-    squares : size_of f.e.x *ℤ size_of f.e.x +ℤ size_of f.e.y *ℤ size_of f.e.y ≡ dot f.e f.e
-    squares = rw (size_square f.e.x, size_square f.e.y) refl
 
 either_sign : (z : ℤ) → pos 0 ≤ℤ (z *ℤ z)
 either_sign z = elim (either (pos 0) z) [ inl i ↦ nn_mul z z i i | inr i ↦ np_mul z z (omega (arith, ints, i)) (omega (arith, ints, i)) ]
@@ -98,14 +99,14 @@ far_sum len h x y k = omega (arith, ints, k.greatest, squared_more len, extents_
 
 -- ---- a point in range
 -- twice how far it is from the line's start, in one coordinate
-offset_within : (h x s m e p : ℤ) → IsWithin x e → IsWithin (pos 1) (pos 2 *ℤ s +ℤ e -ℤ pos 2 *ℤ m) → IsWithin (pos 4 *ℤ h) (p -ℤ m) → IsWithin (pos 8 *ℤ h +ℤ x +ℤ pos 1) (pos 2 *ℤ (p -ℤ s))
+pub offset_within : (h x s m e p : ℤ) → IsWithin x e → IsWithin (pos 1) (pos 2 *ℤ s +ℤ e -ℤ pos 2 *ℤ m) → IsWithin (pos 4 *ℤ h) (p -ℤ m) → IsWithin (pos 8 *ℤ h +ℤ x +ℤ pos 1) (pos 2 *ℤ (p -ℤ s))
 offset_within h x s m e p a b c = record { least = omega (arith, ints, a.least, a.greatest, b.least, b.greatest, c.least); greatest = omega (arith, ints, a.least, a.greatest, b.least, b.greatest, c.greatest) }
 
 halve : (m n z : ℤ) → IsWithin m (pos 2 *ℤ z) → m ≤ℤ (pos 22 *ℤ n) → pos 0 ≤ℤ n → IsWithin (pos 13 *ℤ n) z
 halve m n z h j k = record { least = omega (arith, ints, h.least, j, k); greatest = omega (arith, ints, h.greatest, j, k) }
 
 pub along_in_range : (f : LocalFrame) (p : Point) → IsFrame f → IsInRange f p → IsWithin (pos 13 *ℤ f.q) (dot f.e (way f.p1 p))
-along_in_range f p k r = let b : HasBounds f = frame_bounds f k in let t : IsExtent f.len f.h (size_of f.e.x) (size_of f.e.y) = extent_of f b in
+along_in_range f p k r = let b : HasBounds f = frame_bounds f k in let t : IsExtent f.len f.h (size_of f.e.x) (size_of f.e.y) = extent_of_frame f b in
     halve (size_of f.e.x *ℤ (pos 8 *ℤ f.h +ℤ size_of f.e.x +ℤ pos 1) +ℤ size_of f.e.y *ℤ (pos 8 *ℤ f.h +ℤ size_of f.e.y +ℤ pos 1)) f.q (dot f.e (way f.p1 p))
     (subst (λ (z : ℤ). IsWithin (size_of f.e.x *ℤ (pos 8 *ℤ f.h +ℤ size_of f.e.x +ℤ pos 1) +ℤ size_of f.e.y *ℤ (pos 8 *ℤ f.h +ℤ size_of f.e.y +ℤ pos 1)) z) (twice f.e.x f.e.y (p.x -ℤ f.p1.x) (p.y -ℤ f.p1.y))
     (within_add (size_of f.e.x *ℤ (pos 8 *ℤ f.h +ℤ size_of f.e.x +ℤ pos 1)) (size_of f.e.y *ℤ (pos 8 *ℤ f.h +ℤ size_of f.e.y +ℤ pos 1)) (f.e.x *ℤ (pos 2 *ℤ (p.x -ℤ f.p1.x))) (f.e.y *ℤ (pos 2 *ℤ (p.y -ℤ f.p1.y)))
@@ -121,7 +122,7 @@ along_in_range f p k r = let b : HasBounds f = frame_bounds f k in let t : IsExt
     ordered h x y {n} i = subst (λ (z : ℤ). z ≤ℤ n) (ring (h ∷ x ∷ y ∷ []) (num (pos 8) ⊗ (var 0 ⊗ (var 1 ⊕ var 2)) ⊕ (var 1 ⊗ var 1 ⊕ var 2 ⊗ var 2) ⊕ (var 1 ⊕ var 2)) (var 1 ⊗ (num (pos 8) ⊗ var 0 ⊕ var 1 ⊕ num (pos 1)) ⊕ var 2 ⊗ (num (pos 8) ⊗ var 0 ⊕ var 2 ⊕ num (pos 1))) refl) i
 
 pub left_in_range : (f : LocalFrame) (p : Point) → IsFrame f → IsInRange f p → IsWithin (pos 13 *ℤ f.q) (cross f.e (way f.p1 p))
-left_in_range f p k r = let b : HasBounds f = frame_bounds f k in let t : IsExtent f.len f.h (size_of f.e.x) (size_of f.e.y) = extent_of f b in
+left_in_range f p k r = let b : HasBounds f = frame_bounds f k in let t : IsExtent f.len f.h (size_of f.e.x) (size_of f.e.y) = extent_of_frame f b in
     halve (size_of f.e.x *ℤ (pos 8 *ℤ f.h +ℤ size_of f.e.y +ℤ pos 1) +ℤ size_of f.e.y *ℤ (pos 8 *ℤ f.h +ℤ size_of f.e.x +ℤ pos 1)) f.q (cross f.e (way f.p1 p))
     (subst (λ (z : ℤ). IsWithin (size_of f.e.x *ℤ (pos 8 *ℤ f.h +ℤ size_of f.e.y +ℤ pos 1) +ℤ size_of f.e.y *ℤ (pos 8 *ℤ f.h +ℤ size_of f.e.x +ℤ pos 1)) z) (twice f.e.x f.e.y (p.x -ℤ f.p1.x) (p.y -ℤ f.p1.y))
     (within_sub (size_of f.e.x *ℤ (pos 8 *ℤ f.h +ℤ size_of f.e.y +ℤ pos 1)) (size_of f.e.y *ℤ (pos 8 *ℤ f.h +ℤ size_of f.e.x +ℤ pos 1)) (f.e.x *ℤ (pos 2 *ℤ (p.y -ℤ f.p1.y))) (f.e.y *ℤ (pos 2 *ℤ (p.x -ℤ f.p1.x)))
@@ -142,3 +143,10 @@ left_in_range f p k r = let b : HasBounds f = frame_bounds f k in let t : IsExte
       either_sign (x -ℤ y),
       ring (h ∷ x ∷ y ∷ []) (var 1 ⊗ (num (pos 8) ⊗ var 0 ⊕ var 2 ⊕ num (pos 1)) ⊕ var 2 ⊗ (num (pos 8) ⊗ var 0 ⊕ var 1 ⊕ num (pos 1))) (num (pos 8) ⊗ (var 0 ⊗ (var 1 ⊕ var 2)) ⊕ num (pos 2) ⊗ (var 1 ⊗ var 2) ⊕ (var 1 ⊕ var 2)) refl,
     )
+
+-- ---- as fractions
+pub along_fraction : (f : LocalFrame) (p : Point) → IsFrame f → IsInRange f p → IsFraction (local_x f p) × IsWithinOf (pos 13) (local_x f p)
+along_fraction f p k r = (record { positive = omega (arith, ints, (frame_bounds f k).unit_least) }, record { least = omega (arith, ints, (along_in_range f p k r).least); greatest = (along_in_range f p k r).greatest })
+
+pub left_fraction : (f : LocalFrame) (p : Point) → IsFrame f → IsInRange f p → IsFraction (local_y f p) × IsWithinOf (pos 13) (local_y f p)
+left_fraction f p k r = (record { positive = omega (arith, ints, (frame_bounds f k).unit_least) }, record { least = omega (arith, ints, (left_in_range f p k r).least); greatest = (left_in_range f p k r).greatest })

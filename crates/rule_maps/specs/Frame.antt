@@ -10,7 +10,7 @@ use Rattle.std.specs.Int.{int_max, int_min, int_div_euclid}
 use Rattle.grid_geom.specs.declared.Point.{Point}
 use Rattle.grid_geom.specs.declared.TheConstants.{LONGEST}
 use Rattle.grid_geom.specs.Bounds.{IsWithin, IsOnGrid}
-use Rattle.rule_maps.specs.declared.frame.TheConstants.{OFFSET}
+use Rattle.rule_maps.specs.declared.frame.TheConstants.{OFFSET, HIGH}
 use Rattle.rule_maps.specs.Fractions.{Fraction, nearest}
 
 -- what a contract sees of a frame: the line's start and direction, its length rounded down, the height, the square unit, the line's middle rounded down
@@ -69,6 +69,11 @@ pub record IsBase (p1 p2 : Point) (size : ℕ) : Type 0 where
   pub different : p1 ≢ p2
   pub positive : 1 ≤ size
   pub small : size ≤ LONGEST
+
+-- from 1 to `HIGH`, as each frame's height
+pub record IsHeight (n : ℤ) : Type 0 where
+  pub least : pos 1 ≤ℤ n
+  pub greatest : n ≤ℤ HIGH
 
 -- the frame of some line and size
 pub record IsFrame (f : LocalFrame) : Type 0 where

@@ -7,14 +7,16 @@
 -- placed      the grid place nearest to a local place
 -- new_point   the place of a new point
 -- corner      the place of a corner at a class
-use Rattle.std.specs.Prelude.{ℕ, ◌-◌, Bool, true, false, List, [], ◌∷◌, slice_index_or, ℤ, pos, ◌-ℤ◌, ◌*ℤ◌}
+use Rattle.std.specs.Prelude.{◌≡◌, ℕ, ◌-◌, Bool, true, false, List, [], ◌∷◌, length, slice_index_or, ℤ, pos, ◌-ℤ◌, ◌*ℤ◌}
+use Rattle.std.specs.List.{All}
 use Rattle.grid_geom.specs.declared.Point.{Point}
 use Rattle.rule_reader.specs.declared.rule.MapPoint.{MapPoint}
 use Rattle.rule_reader.specs.declared.rule.Term.{Term}
 use Rattle.rule_reader.specs.declared.rule.Place.{Place}
 use Rattle.rule_reader.specs.declared.rule.Rule.{Rule}
+use Rattle.rule_reader.specs.Normal.{IsRule}
 use Rattle.rule_maps.specs.Fractions.{Fraction, whole, plus, minus, times, divided, nearest}
-use Rattle.rule_maps.specs.Frame.{LocalFrame, dot, local_x, local_y}
+use Rattle.rule_maps.specs.Frame.{LocalFrame, IsFrame, IsInRange, dot, local_x, local_y}
 
 pub record Mapping : Type 0 where
   pub frame : LocalFrame
@@ -92,3 +94,10 @@ narrowest area (p ∷ limit) = p ∷ limit
 -- the place of corner k at a class
 unfoldable pub corner : Mapping → ℕ → ℕ → Point
 corner m k class = placed m.frame (mixed class (local_of m (place_at m.rule.area k)) (local_of m (place_at (narrowest m.rule.area m.rule.limit) k)))
+
+-- a frame, a rule within the limits, and as many points in range as the rule maps
+pub record IsMapping (m : Mapping) : Type 0 where
+  pub frame : IsFrame m.frame
+  pub rule : IsRule m.rule
+  pub count : length m.mapped ≡ length m.rule.points
+  pub range : All (IsInRange m.frame) m.mapped

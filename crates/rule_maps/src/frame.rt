@@ -1,10 +1,10 @@
 // The local frame of a base line.
-ghost use Rattle.std.specs.Prelude.{◌≡◌, ◌≢◌, ◌≤◌, ◌≤ℤ◌, ◌<ℤ◌, ◌*ℤ◌, ◌+ℤ◌, ◌-ℤ◌, pos};
+ghost use Rattle.std.specs.Prelude.{◌≡◌, ◌≢◌, ◌↔◌, IsTrue, ◌≤◌, ◌≤ℤ◌, ◌<ℤ◌, ◌*ℤ◌, ◌+ℤ◌, ◌-ℤ◌, pos};
 ghost use Rattle.std.specs.Int.{int_max, int_min};
 ghost use Rattle.grid_geom.specs.Bounds.{IsOnGrid, IsWithin};
-ghost use Rattle.rule_maps.specs.Frame.{LocalFrame, IsRoot, IsFrameOf, IsFrame, IsInRange, IsWay, way, dot, cross, half, height, local_x, local_y, in_units, local4_x, local4_y};
+ghost use Rattle.rule_maps.specs.Frame.{LocalFrame, IsRoot, IsFrameOf, IsFrame, IsInRange, IsWay, IsHeight, way, dot, cross, half, height, local_x, local_y, in_units, local4_x, local4_y};
 
-use grid_geom::{GRID, LONGEST, Point, isqrt, round_div};
+use grid_geom::{GRID, LONGEST, Point, isqrt, on_grid, round_div};
 use std::marker::Model;
 
 // Bounds of the numbers on the way, all from `GRID` and `LONGEST`: a difference of coordinates, a sum of two products of
@@ -113,6 +113,17 @@ fn height_of(len: i64, size: u64) -> i64
     (size as i64).max((len + 1).div_euclid(2)).min(3 * len)
 }
 
+/// Whether a coordinate is within four heights of another.
+fn is_near(a: &i64, b: &i64, h: &i64) -> bool
+    requires a_on { IsWithin GRID a.now }
+    requires b_on { IsWithin GRID b.now }
+    requires high { IsHeight h.now }
+    ensures { IsTrue result ↔ IsWithin (pos 4 *ℤ h.now) (a.now -ℤ b.now) }
+{
+    let (offset, far) = (a - b, 4 * h);
+    -far <= offset && offset <= far
+}
+
 impl Frame {
     /// The frame of the line from `p1` to `p2`, where the size at its middle is `size`, in grid steps.
     pub fn new(p1: Point, p2: Point, size: u64) -> Frame
@@ -186,6 +197,15 @@ impl Frame {
         ensures frame { IsFrame self.now }
     {
         self.middle
+    }
+
+    /// Whether a rule may map p on this line: whether p is on the grid, and within four heights of the middle in each coordinate.
+    pub fn is_in_range(&self, p: Point) -> bool
+        ensures { IsTrue result ↔ IsInRange self.now p }
+    {
+        on_grid(p)
+            && is_near(&p.x, &self.middle.x, &self.h)
+            && is_near(&p.y, &self.middle.y, &self.h)
     }
 
     /// The square of the line's length.

@@ -9,6 +9,7 @@
 mod compiled;
 mod frame;
 mod inert;
+pub mod laws;
 mod placing;
 mod reach;
 mod rule_set;
@@ -19,3 +20,8 @@ pub use frame::Frame;
 pub use inert::Inert;
 pub use rule_set::RuleSet;
 pub use std::alloc::AllocError as OutOfMemory;
+
+#[cfg(test)]
+mod tests;
+#[cfg(test)]
+mod texts;

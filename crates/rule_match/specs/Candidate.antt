@@ -1,14 +1,13 @@
 -- When a rule applies at a line of the front: a class, a line, a rule and an assignment of front points to the rule's points.
 -- Origin: NETGEN's rule test (Schoeberl 1997). These definitions look at all front points and all front lines.
 --
--- Maps          what is taken from the places of rules and from sizes
--- Attempt       a class, a line, a rule with its number, an assignment
--- base .. elements   the places of an attempt
+-- Attempt       a class, a line with its frame, a rule with its number, an assignment
+-- mapped, locals, mapping, made, zone, elements   the places of an attempt
 -- IsTolerated   a deviation is within a tolerance at a class
 -- IsCandidate   the rule applies: its sentences are the fields, in the order in which they are looked at
 use lib.IntN.{ℤ, pos, ◌+ℤ◌, ◌-ℤ◌, ◌*ℤ◌}
 use lib.Signed.{◌<ℤ◌, ◌≤ℤ◌}
-use Rattle.std.specs.Prelude.{ℕ, ◌≡◌, ◌+◌, ◌*◌, ◌-◌, ◌≤◌, Bool, IsTrue, nat_eq, List, [], ◌∷◌, ◌++◌, length, map, slice_index_or, ◌⊎◌}
+use Rattle.std.specs.Prelude.{ℕ, ◌≡◌, ◌+◌, ◌*◌, ◌-◌, ◌≤◌, nat_eq, List, [], ◌∷◌, ◌++◌, length, map, slice_index_or, ◌⊎◌}
 use Rattle.std.specs.List.{AllByRecursion, Any, Contains, IsDistinct}
 use Rattle.grid_geom.specs.declared.Point.{Point}
 use Rattle.grid_geom.specs.Bounds.{IsOnGrid}
@@ -16,32 +15,22 @@ use Rattle.grid_geom.specs.Closed.{same_point}
 use Rattle.grid_geom.specs.Line.{whole}
 use Rattle.grid_geom.specs.Plane.{orient}
 use Rattle.grid_geom.specs.Polygon.{IsStrictlyConvex, IsInPolygon, IsApart}
+use Rattle.rule_maps.specs.Places.{Mapping, new_point, corner}
+use Rattle.rule_maps.specs.Inert.{IsLive}
+use Rattle.rule_maps.specs.Frame.{LocalFrame, local4_x, local4_y, IsInRange}
 use Rattle.rule_reader.specs.declared.rule.Rule.{Rule}
+use Rattle.rule_reader.specs.declared.rule.Place.{Place}
 use Rattle.rule_reader.specs.declared.rule.Triple.{Triple}
 use Rattle.rule_reader.specs.declared.rule.MapPoint.{MapPoint}
 use Rattle.rule_reader.specs.declared.rule.MapLine.{MapLine}
 use Rattle.state_law.specs.State.{State, point_at, front_edges, corners_of}
 use Rattle.state_law.specs.Gluing.{MayAllBeGlued}
 
--- what the frame of a line is made of: its ends' places and the size at its floored middle
-pub record Base : Type 0 where
-  pub start : Point
-  pub end : Point
-  pub size : ℕ
-
--- what is taken from rule_maps and size_field, which aren't built yet: stand-ins for their definitions
-pub record Maps : Type 0 where
-  pub is_live : Rule → Bool
-  pub is_in_range : Base → Point → Bool
-  pub local4 : Base → Point → Point
-  pub made : Rule → Base → List Point → List Point
-  pub corners : Rule → Base → ℕ → List Point → List Point
-  pub size_at : Point → Point → ℕ
-
--- a class, a front line (number, from, to), a rule with its number, and an assignment: the numbers of the mapped points in the rule's order
+-- a class, a front line (number, from, to) with its local frame, a rule with its number, and an assignment: the numbers of the mapped points in the rule's order
 pub record Attempt : Type 0 where
   pub class : ℕ
   pub line : ℕ × ℕ × ℕ
+  pub frame : LocalFrame
   pub rule : ℕ
   pub text : Rule
   pub points : List ℕ
@@ -51,22 +40,38 @@ abbrev pub nth : List ℕ → ℕ → ℕ
 nth ns n = slice_index_or ns (n - 1) 0
 
 -- ---- the places of an attempt
-module _ (maps : Maps) (st : State) (t : Attempt) where
-  abbrev pub base : Base
-  base = record { start = point_at st.points t.line.1; end = point_at st.points t.line.2; size = maps.size_at (point_at st.points t.line.1) (point_at st.points t.line.2) }
+abbrev pub mapped : State → Attempt → List Point
+mapped st t = corners_of st.points t.points
 
-  abbrev pub mapped : List Point
-  mapped = corners_of st.points t.points
+-- the local places of the mapped points, in units of 1/10,000, rounded
+abbrev pub local4 : LocalFrame → Point → Point
+local4 f p = record { x = local4_x f p; y = local4_y f p }
 
-  abbrev pub made : List Point
-  made = maps.made t.text base mapped
+abbrev pub locals : State → Attempt → List Point
+locals st t = map (local4 t.frame) (mapped st t)
 
-  abbrev pub zone : List Point
-  zone = maps.corners t.text base t.class mapped
+abbrev pub mapping : State → Attempt → Mapping
+mapping st t = record { frame = t.frame; rule = t.text; mapped = mapped st t }
 
-  -- the corners of the elements; rule points after the mapped ones are the new points
-  abbrev pub elements : List (List Point)
-  elements = map (corners_of (mapped ++ made)) t.text.elements
+-- the places of the new points from number k on
+abbrev pub made_from : Mapping → ℕ → List Place → List Point
+made_from m k [] = []
+made_from m k (p ∷ ps) = new_point m k ∷ made_from m (k + 1) ps
+
+abbrev pub made : State → Attempt → List Point
+made st t = made_from (mapping st t) 1 t.text.new_points
+
+-- the places of the zone's corners at the class from number k on
+abbrev pub zone_from : Mapping → ℕ → ℕ → List Place → List Point
+zone_from m class k [] = []
+zone_from m class k (p ∷ ps) = corner m k class ∷ zone_from m class (k + 1) ps
+
+abbrev pub zone : State → Attempt → List Point
+zone st t = zone_from (mapping st t) t.class 1 t.text.area
+
+-- the corners of the elements; rule points after the mapped ones are the new points
+abbrev pub elements : State → Attempt → List (List Point)
+elements st t = map (corners_of (mapped st t ++ made st t)) t.text.elements
 
 -- the pair of numbers that the rule's line is mapped to
 abbrev pub mapped_pair : List ℕ → MapLine → ℕ × ℕ
@@ -112,33 +117,33 @@ abbrev pub IsMappedLine : Attempt → ℕ × ℕ × ℕ → Type 0
 IsMappedLine t line = Any (λ l. mapped_pair t.points l ≡ (line.1, line.2)) t.text.lines
 
 -- the attempt is a candidate of the state
-pub record IsCandidate (maps : Maps) (st : State) (t : Attempt) : Type 0 where
+pub record IsCandidate (st : State) (t : Attempt) : Type 0 where
   -- the rule is live and of quality at most the class
-  pub live : IsTrue (maps.is_live t.text)
+  pub live : IsLive t.text
   pub quality : t.text.quality ≤ t.class
   -- different front points in range, one per mapped point
   pub counted : length t.points ≡ length t.text.points
   pub different : IsDistinct nat_eq t.points
   pub on_front : AllByRecursion (IsFrontPoint st) t.points
-  pub in_range : AllByRecursion (λ p. IsTrue (maps.is_in_range (base maps st t) p)) (mapped maps st t)
+  pub in_range : AllByRecursion (IsInRange t.frame) (mapped st t)
   -- rule points 1 and 2 at the ends of the line, each mapped line at a front line of the same direction
   pub at_start : nth t.points 1 ≡ t.line.1
   pub at_end : nth t.points 2 ≡ t.line.2
   pub at_lines : AllByRecursion (λ l. IsFrontPair st (mapped_pair t.points l)) t.text.lines
   -- the tolerances at the class
-  pub points_tolerated : AreTolerated t.class (map (maps.local4 (base maps st t)) (mapped maps st t)) t.text.points
-  pub lines_tolerated : AllByRecursion (IsLineTolerated t.class (map (maps.local4 (base maps st t)) (mapped maps st t)) t.text.points) t.text.lines
+  pub points_tolerated : AreTolerated t.class (locals st t) t.text.points
+  pub lines_tolerated : AllByRecursion (IsLineTolerated t.class (locals st t) t.text.points) t.text.lines
   -- the orientations
-  pub turned : AllByRecursion (λ n. pos 0 <ℤ orient (point_at (mapped maps st t) n.0) (point_at (mapped maps st t) n.1) (point_at (mapped maps st t) n.2)) t.text.turns
+  pub turned : AllByRecursion (λ n. pos 0 <ℤ orient (point_at (mapped st t) n.0) (point_at (mapped st t) n.1) (point_at (mapped st t) n.2)) t.text.turns
   -- the new points: on the grid, at no listed point, different
-  pub made_on_grid : AllByRecursion IsOnGrid (made maps st t)
-  pub made_new : AllByRecursion (λ p. ¬ (Contains st.points p)) (made maps st t)
-  pub made_different : IsDistinct same_point (made maps st t)
+  pub made_on_grid : AllByRecursion IsOnGrid (made st t)
+  pub made_new : AllByRecursion (λ p. ¬ (Contains st.points p)) (made st t)
+  pub made_different : IsDistinct same_point (made st t)
   -- the zone: on the grid, strictly convex
-  pub zone_on_grid : AllByRecursion IsOnGrid (zone maps st t)
-  pub zone_convex : IsStrictlyConvex (zone maps st t)
+  pub zone_on_grid : AllByRecursion IsOnGrid (zone st t)
+  pub zone_convex : IsStrictlyConvex (zone st t)
   -- no front point but the mapped ones in the open zone, each front line but the mapped ones apart from it
-  pub no_point_in_zone : (n : ℕ) → IsFrontPoint st n → (Contains t.points n) ⊎ ¬ (IsInPolygon (whole (point_at st.points n)) (zone maps st t))
-  pub no_line_in_zone : AllByRecursion (λ line. IsMappedLine t line ⊎ IsApart (point_at st.points line.1) (point_at st.points line.2) (zone maps st t)) st.front
+  pub no_point_in_zone : (n : ℕ) → IsFrontPoint st n → (Contains t.points n) ⊎ ¬ (IsInPolygon (whole (point_at st.points n)) (zone st t))
+  pub no_line_in_zone : AllByRecursion (λ line. IsMappedLine t line ⊎ IsApart (point_at st.points line.1) (point_at st.points line.2) (zone st t)) st.front
   -- the elements, one after another
-  pub glued : MayAllBeGlued (elements maps st t) (front_edges st.points st.front)
+  pub glued : MayAllBeGlued (elements st t) (front_edges st.points st.front)

@@ -15,11 +15,13 @@ use Rattle.grid_geom.specs.declared.Edge.{Edge}
 use Rattle.grid_geom.specs.Polygon.{sides}
 use Rattle.grid_geom.specs.Area.{shoelace}
 use Rattle.rule_reader.specs.declared.rule.Rule.{Rule}
-use Rattle.state_law.specs.State.{State}
+use Rattle.state_law.specs.State.{State, point_at}
+use Rattle.size_field.specs.Size.{SizeField, size_at}
+use Rattle.rule_maps.specs.Frame.{IsFrameOf}
 use Rattle.rule_match.specs.declared.badness.Badness.{Badness}
 use Rattle.rule_match.specs.declared.found.Found.{Found}
 use Rattle.rule_match.specs.Order.{badness_cmp, rank_cmp}
-use Rattle.rule_match.specs.Candidate.{Maps, Attempt, IsCandidate, elements}
+use Rattle.rule_match.specs.Candidate.{Attempt, IsCandidate, elements}
 
 abbrev pub square : ℤ → ℕ
 square z = unsigned_abs z * unsigned_abs z
@@ -43,23 +45,24 @@ worst x [] = x
 worst x (corners ∷ elements) = worst (worse x (badness_of corners)) elements
 
 -- what is compared of the candidates of one line and class
-abbrev pub rank : Maps → State → Attempt → Found
-rank maps st t = record { badness = worst (record { squares = 0; area = 1 }) (elements maps st t); rule = t.rule; points = t.points }
+abbrev pub rank : State → Attempt → Found
+rank st t = record { badness = worst (record { squares = 0; area = 1 }) (elements st t); rule = t.rule; points = t.points }
 
--- the attempt is one on the front line with the number at the class, by a rule of the list with its number
-pub record IsOf (st : State) (rules : List Rule) (line class : ℕ) (t : Attempt) : Type 0 where
+-- the attempt is one on the front line with the number, with its frame at the size at its middle, at the class, by a rule of the list with its number
+pub record IsOf (sizes : SizeField) (st : State) (rules : List Rule) (line class : ℕ) (t : Attempt) : Type 0 where
   pub on_front : Contains st.front t.line
   pub same_line : t.line.0 ≡ line
+  pub framed : IsFrameOf (point_at st.points t.line.1) (point_at st.points t.line.2) (size_at sizes t.frame.middle) t.frame
   pub same_class : t.class ≡ class
   pub numbered : 1 ≤ t.rule
   pub is_rule : slice_get rules (t.rule - 1) ≡ Some t.text
 
 -- the least candidate of the line at the class
-pub record IsLeast (maps : Maps) (st : State) (rules : List Rule) (line class : ℕ) (t : Attempt) : Type 0 where
-  pub of : IsOf st rules line class t
-  pub candidate : IsCandidate maps st t
-  pub least : (other : Attempt) → IsOf st rules line class other → IsCandidate maps st other → is_gt (rank_cmp (rank maps st t) (rank maps st other)) ≡ false
+pub record IsLeast (sizes : SizeField) (st : State) (rules : List Rule) (line class : ℕ) (t : Attempt) : Type 0 where
+  pub of : IsOf sizes st rules line class t
+  pub candidate : IsCandidate st t
+  pub least : (other : Attempt) → IsOf sizes st rules line class other → IsCandidate st other → is_gt (rank_cmp (rank st t) (rank st other)) ≡ false
 
 -- none of the line's attempts at the class is a candidate
-pub record HasNone (maps : Maps) (st : State) (rules : List Rule) (line class : ℕ) : Type 0 where
-  pub none : (t : Attempt) → IsOf st rules line class t → IsCandidate maps st t → ⊥
+pub record HasNone (sizes : SizeField) (st : State) (rules : List Rule) (line class : ℕ) : Type 0 where
+  pub none : (t : Attempt) → IsOf sizes st rules line class t → IsCandidate st t → ⊥

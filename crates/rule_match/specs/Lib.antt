@@ -9,3 +9,6 @@ pub mod Least
 pub mod Refused
 -- Walk: what a search promises.
 pub mod Walk
+-- Fitting: which first points of an assignment may go on. Trying: the tests of a rule's points.
+pub mod Fitting
+pub mod Trying

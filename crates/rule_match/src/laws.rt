@@ -1,36 +1,38 @@
 //! Laws of candidates, each the contract of a function that does nothing.
 
-ghost use Rattle.std.specs.Prelude.{ℕ, List, ◌++◌, ◌≡◌};
+ghost use Rattle.std.specs.Prelude.{ℕ, List, ◌++◌, ◌≡◌, true, length};
 ghost use Rattle.rule_reader.specs.declared.rule.Rule.{Rule};
+ghost use Rattle.size_field.specs.Size.{SizeField};
 ghost use Rattle.state_law.specs.State.{State, front_edges};
-ghost use Rattle.state_law.specs.Refusal.{IsFront, HasReason, IsStep, Attempt as PlacedAttempt, DoesFit};
+ghost use Rattle.state_law.specs.Refusal.{IsFront, HasReason, IsStep, Attempt as PlacedAttempt, DoesFit as IsOnFront};
 ghost use Rattle.state_law.specs.Saved.{IsCorner};
 ghost use Rattle.state_law.specs.Gluing.{glue_all};
 ghost use Rattle.grid_geom.specs.declared.Point.{Point};
 ghost use Rattle.grid_geom.specs.declared.Edge.{Edge};
 ghost use Rattle.rule_match.specs.declared.progress.Note.{Note as Noted};
-ghost use Rattle.rule_match.specs.Candidate.{Maps, Attempt, IsCandidate};
+ghost use Rattle.rule_match.specs.Candidate.{Attempt, IsCandidate};
 ghost use Rattle.rule_match.specs.Least.{HasNone, IsLeast};
 ghost use Rattle.rule_match.specs.Refused.{IsRefusedBy, IsExcused};
+ghost use Rattle.rule_match.specs.Fitting.{Tie, fits_so_far, in_order, IsOrder, renumbered, DoesFit};
 
 /// A line has at most one least candidate at a class: its rule and its assignment are fixed.
 pub fn law_one()
-    ensures { (maps : Maps) (st : State) (rules : List Rule) (line class : ℕ) (t u : Attempt) →
-        IsLeast maps st rules line class t → IsLeast maps st rules line class u →
+    ensures { (sizes : SizeField) (st : State) (rules : List Rule) (line class : ℕ) (t u : Attempt) →
+        IsLeast sizes st rules line class t → IsLeast sizes st rules line class u →
         (t.rule ≡ u.rule) × (t.points ≡ u.points) }
 {}
 
 /// A pair of line and class that is refused has no candidate.
 pub fn law_none()
-    ensures { (maps : Maps) (st : State) (rules : List Rule) (line class : ℕ) (notes : List Noted) →
-        IsFront (front_edges st.points st.front) → IsRefusedBy maps st rules line class notes →
-        HasNone maps st rules line class }
+    ensures { (sizes : SizeField) (st : State) (rules : List Rule) (line class : ℕ) (notes : List Noted) →
+        IsFront (front_edges st.points st.front) → IsRefusedBy sizes st rules line class notes →
+        HasNone sizes st rules line class }
 {}
 
 /// With more notes a reason stays a reason.
 pub fn law_more()
-    ensures { (maps : Maps) (st : State) (notes more : List Noted) (t : Attempt) →
-        IsExcused maps st notes t → IsExcused maps st (notes ++ more) t }
+    ensures { (st : State) (notes more : List Noted) (t : Attempt) →
+        IsExcused st notes t → IsExcused st (notes ++ more) t }
 {}
 
 /// A reason of one attempt is kept over an application that takes no witness and joins no line whose
@@ -39,6 +41,17 @@ pub fn law_again()
     ensures { (points more : List Point) (front : List Edge) (elements : List (List Point))
         (witnesses : List Edge) (t : PlacedAttempt) →
         IsStep (λ u. u ≡ t) (λ p. IsCorner p t.mapped) points more front elements witnesses →
-        HasReason points front witnesses t → DoesFit (glue_all front elements) t →
+        HasReason points front witnesses t → IsOnFront (glue_all front elements) t →
         HasReason (points ++ more) (glue_all front elements) witnesses t }
+{}
+
+/// An assignment that fits in the rule's order fits in the order of mapping, from which it is had back.
+/// And what doesn't fit so far doesn't fit in any way that it goes on.
+pub fn law_order()
+    ensures fits { (ties : List Tie) (plan places a : List ℕ) → IsOrder plan places (length a) →
+        DoesFit ties a → fits_so_far (renumbered places ties) (in_order plan a) ≡ true }
+    ensures back { (plan places a : List ℕ) → IsOrder plan places (length a) →
+        in_order places (in_order plan a) ≡ a }
+    ensures so_far { (ties : List Tie) (b rest : List ℕ) →
+        fits_so_far ties (b ++ rest) ≡ true → fits_so_far ties b ≡ true }
 {}

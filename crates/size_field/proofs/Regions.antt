@@ -11,7 +11,7 @@ use Rattle.grid_geom.specs.Winding.{wind}
 use Rattle.grid_geom.specs.Closed.{same_point, leaving, arriving, IsClosed, IsOff}
 use Rattle.geom_check.specs.declared.kinds.Segment.{Segment}
 use Rattle.geom_check.specs.Boundary.{edge_of, edges_of, boundary}
-use Rattle.geom_check.specs.Accepted.{IsSide}
+use Rattle.geom_check.specs.Accepted.{IsZeroOrOne}
 use Rattle.geom_check.specs.Geometry.{PlanarMap, IsGeometry}
 use Rattle.wind_law.specs.Chains.{edge}
 use Rattle.state_law.specs.Region.{IsRegion}
@@ -148,9 +148,9 @@ boundary_region g greatest grading d h above =
     let untangled = boundary_untangled g greatest grading d h in
     region_opened (piece_boundary d g.segments (pieces_of g greatest grading)) (edges_of g.points g.segments) (segments_untangled g h).edges untangled.edges
     (pieces_closed g greatest grading d (h.planar.closed d above)) untangled.free
-    (λ q kq off. subst IsSide (sym (pieces_wind g greatest grading d q h kq)) (h.planar.winding d above q kq off))
+    (λ q kq off. subst IsZeroOrOne (sym (pieces_wind g greatest grading d q h kq)) (h.planar.winding d above q kq off))
 
-one_of : {z : ℤ} → IsSide z → pos 1 ≤ℤ z → z ≡ pos 1
+one_of : {z : ℤ} → IsZeroOrOne z → pos 1 ≤ℤ z → z ≡ pos 1
 one_of {z} (inl e) h = omega (arith, ints)
 one_of {z} (inr e) h = e
 
