@@ -23,6 +23,9 @@ pub record Mapping : Type 0 where
   pub rule : Rule
   pub mapped : List Point
 
+abbrev pub mapping : LocalFrame → Rule → List Point → Mapping
+mapping frame rule mapped = record { frame = frame; rule = rule; mapped = mapped }
+
 -- a number of a rule's text
 abbrev pub number : ℤ → Fraction
 number n = record { top = n; bottom = pos 10000 }
