@@ -60,8 +60,8 @@ abbrev pub line_test : Setting → MapLine → NearPoint → NearPoint → Bool
 line_test s l a b =
     list_any (does_go a.number b.number) s.lines
     && is_tolerated s.class l.tol
-        ((b.x -ℤ a.x) -ℤ ((rule_place s.rule.points l.j).x -ℤ (rule_place s.rule.points l.i).x))
-        ((b.y -ℤ a.y) -ℤ ((rule_place s.rule.points l.j).y -ℤ (rule_place s.rule.points l.i).y))
+    ((b.x -ℤ a.x) -ℤ ((rule_place s.rule.points l.j).x -ℤ (rule_place s.rule.points l.i).x))
+    ((b.y -ℤ a.y) -ℤ ((rule_place s.rule.points l.j).y -ℤ (rule_place s.rule.points l.i).y))
 
 abbrev pub turn_test : NearPoint → NearPoint → NearPoint → Bool
 turn_test a b c = lt_z (pos 0) (orient a.at b.at c.at)

@@ -10,29 +10,29 @@ ghost use Rattle.state_law.specs.Gluing.{glue_all};
 ghost use Rattle.grid_geom.specs.declared.Point.{Point};
 ghost use Rattle.grid_geom.specs.declared.Edge.{Edge};
 ghost use Rattle.rule_match.specs.declared.progress.Note.{Note as Noted};
-ghost use Rattle.rule_match.specs.Candidate.{Maps, Attempt, IsCandidate};
+ghost use Rattle.rule_match.specs.Candidate.{Attempt, IsCandidate};
 ghost use Rattle.rule_match.specs.Least.{HasNone, IsLeast};
 ghost use Rattle.rule_match.specs.Refused.{IsRefusedBy, IsExcused};
 ghost use Rattle.rule_match.specs.Fitting.{Tie, fits_so_far, in_order, IsOrder, renumbered, DoesFit};
 
 /// A line has at most one least candidate at a class: its rule and its assignment are fixed.
 pub fn law_one()
-    ensures { (maps : Maps) (sizes : SizeField) (st : State) (rules : List Rule) (line class : ℕ) (t u : Attempt) →
-        IsLeast maps sizes st rules line class t → IsLeast maps sizes st rules line class u →
+    ensures { (sizes : SizeField) (st : State) (rules : List Rule) (line class : ℕ) (t u : Attempt) →
+        IsLeast sizes st rules line class t → IsLeast sizes st rules line class u →
         (t.rule ≡ u.rule) × (t.points ≡ u.points) }
 {}
 
 /// A pair of line and class that is refused has no candidate.
 pub fn law_none()
-    ensures { (maps : Maps) (sizes : SizeField) (st : State) (rules : List Rule) (line class : ℕ) (notes : List Noted) →
-        IsFront (front_edges st.points st.front) → IsRefusedBy maps sizes st rules line class notes →
-        HasNone maps sizes st rules line class }
+    ensures { (sizes : SizeField) (st : State) (rules : List Rule) (line class : ℕ) (notes : List Noted) →
+        IsFront (front_edges st.points st.front) → IsRefusedBy sizes st rules line class notes →
+        HasNone sizes st rules line class }
 {}
 
 /// With more notes a reason stays a reason.
 pub fn law_more()
-    ensures { (maps : Maps) (st : State) (notes more : List Noted) (t : Attempt) →
-        IsExcused maps st notes t → IsExcused maps st (notes ++ more) t }
+    ensures { (st : State) (notes more : List Noted) (t : Attempt) →
+        IsExcused st notes t → IsExcused st (notes ++ more) t }
 {}
 
 /// A reason of one attempt is kept over an application that takes no witness and joins no line whose

@@ -1,6 +1,6 @@
 use Rattle.std.proofs.Common.{arith, sym}
 use Rattle.geom_check.proofs.Powers.{shrinks_away, power_most, power_least}
-use Rattle.geom_check.proofs.scale.shrunk.Goals as goal
+use Rattle.geom_check.proofs.scale.units_down.Goals as goal
 
 pub returns-then-exponent-gt31-clause-fits : goal.returns-then-exponent-gt31-clause-fits
 returns-then-exponent-gt31-clause-fits c = sym (shrinks_away c.args.size c.args.exponent c.requires (omega arith))

@@ -1,6 +1,6 @@
 use Rattle.std.proofs.Common.{arith}
 use Rattle.geom_check.proofs.Powers.{shrinks_shortest, power_most, power_least}
-use Rattle.geom_check.proofs.scale.short.Goals as goal
+use Rattle.geom_check.proofs.scale.length_down.Goals as goal
 
 pub returns-then-exponent-gt31 : goal.returns-then-exponent-gt31
 returns-then-exponent-gt31 c = omega (arith, shrinks_shortest c.args.size c.args.exponent c.requires (omega arith))
