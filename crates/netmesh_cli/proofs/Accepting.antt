@@ -1,6 +1,6 @@
 -- Bytes that are accepted as a file of a kind are not refused as one, and bytes have one refusal.
 -- Each kind of file is one case: `split` its refusals, and say why no two of them come together.
-use Rattle.std.proofs.Common.{◌≡◌, ◌≢◌, ◌⊎◌, inl, inr, ℕ, Bool, true, false, List, [], sym, subst, ap, refl, ◌∙◌}
+use Rattle.std.proofs.Common.{◌≡◌, ◌≢◌, ◌⊎◌, inl, inr, ℕ, List, [], sym, subst, ap, refl, ◌∙◌}
 use Rattle.in2d_reader.specs.declared.geometry.RawGeometry.{RawGeometry}
 use Rattle.in2d_reader.specs.declared.refusal.In2dRefusal.{In2dRefusal}
 use Rattle.rule_reader.specs.declared.fault.RuleRefusal.{RuleRefusal}
@@ -9,8 +9,8 @@ use Rattle.geom_check.specs.Refused.{IsRefusal}
 use Rattle.netmesh_cli.specs.declared.words_fault.WordsFault.{WordsFault}
 use Rattle.netmesh_cli.specs.declared.outcome.Refusal.{Refusal}
 use Rattle.netmesh_cli.specs.declared.outcome.Refusal.TheVariants.{Words, In2d, Geometry, Rules, Folder, Out, Memory, NotYet}
-use Rattle.netmesh_cli.specs.Accepted.{IsTextFault, IsGeometryFault, HasGeometry, HasPlainGeometry, HasSizedGeometry, gives_size, AreRules, HasRules, IsRulesFault}
-use Rattle.netmesh_cli.specs.Kinds.{Kind, AGeometry, APlainGeometry, ARulelessFile, Accepts, Rejects, CanReject, GeometryRejects, PlainRejects, RulelessRejects}
+use Rattle.netmesh_cli.specs.Accepted.{IsTextFault, IsGeometryFault, HasGeometry, AreRules, HasRules, IsRulesFault}
+use Rattle.netmesh_cli.specs.Kinds.{Kind, AGeometry, ARulelessFile, Accepts, Rejects, CanReject, GeometryRejects, RulelessRejects}
 use Rattle.netmesh_cli.proofs.Excluded.{excluded, fault_once, text_once, text_fault_once, rules_once, rules_fault_once}
 
 -- ---- a geometry
@@ -56,44 +56,6 @@ one_of_geometry bytes r s (inr first) (inr second) =
     let refused = subst (λ (raw : RawGeometry). IsRefusal raw first.0) (text_once bytes first.2.raw second.2.raw first.2.text second.2.text) first.2.refused in
     first.1 ∙ ap Geometry (fault_once second.2.raw first.0 second.0 first.2.named second.2.named refused second.2.refused) ∙ sym second.1
 
--- ---- a geometry without sizes
-
-geometry_of_plain : (bytes : List ℕ) → HasPlainGeometry bytes → HasGeometry bytes
-geometry_of_plain bytes has = record { raw = has.raw; geometry = has.geometry; written = has.written }
-
-geometry_of_sized : (bytes : List ℕ) → HasSizedGeometry bytes → HasGeometry bytes
-geometry_of_sized bytes has = record { raw = has.raw; geometry = has.geometry; written = has.written }
-
-sized_and_plain : (bytes : List ℕ) → HasPlainGeometry bytes → ¬ HasSizedGeometry bytes
-sized_and_plain bytes plain sized =
-    let e = ap gives_size (text_once bytes sized.raw plain.raw sized.written.text plain.written.text) in
-    let t = sized.sized in
-    let f = plain.plain in
-    absurd (cc)
-
-abbrev PlainSplit : List ℕ → Refusal → Type 0
-PlainSplit bytes r = GeometryRejects bytes r ⊎ ((r ≡ NotYet 2) × HasSizedGeometry bytes)
-
-plain_split : (bytes : List ℕ) (r : Refusal) → PlainRejects bytes r → PlainSplit bytes r
-plain_split bytes (Words fault) rejects = inl rejects
-plain_split bytes (In2d fault) rejects = inl rejects
-plain_split bytes (Geometry fault) rejects = inl rejects
-plain_split bytes (Rules fault) rejects = inl rejects
-plain_split bytes (Folder name number) rejects = inl rejects
-plain_split bytes Out rejects = inl rejects
-plain_split bytes Memory rejects = inl rejects
-plain_split bytes (NotYet part) rejects = inr (ap NotYet rejects.0, rejects.1)
-
-plain_unrejected : (bytes : List ℕ) (r : Refusal) → HasPlainGeometry bytes → ¬ PlainSplit bytes r
-plain_unrejected bytes r has (inl rejects) = geometry_unrejected bytes r (geometry_of_plain bytes has) rejects
-plain_unrejected bytes r has (inr rejects) = sized_and_plain bytes has rejects.1
-
-one_of_plain : (bytes : List ℕ) (r s : Refusal) → PlainSplit bytes r → PlainSplit bytes s → r ≡ s
-one_of_plain bytes r s (inl first) (inl second) = one_of_geometry bytes r s (geometry_split bytes r first) (geometry_split bytes s second)
-one_of_plain bytes r s (inl first) (inr second) = absurd (geometry_unrejected bytes r (geometry_of_sized bytes second.1) first)
-one_of_plain bytes r s (inr first) (inl second) = absurd (geometry_unrejected bytes s (geometry_of_sized bytes first.1) second)
-one_of_plain bytes r s (inr first) (inr second) = first.0 ∙ sym second.0
-
 -- ---- a rule file without a rule
 
 abbrev RulelessSplit : List ℕ → Refusal → Type 0
@@ -123,12 +85,10 @@ one_of_ruleless bytes r s (inr first) (inr second) = first.0 ∙ sym second.0
 
 pub accepted_unrejected : (kind : Kind) (bytes : List ℕ) (r : Refusal) → Accepts kind bytes → ¬ Rejects kind bytes r
 accepted_unrejected AGeometry bytes r accepted rejects = geometry_unrejected bytes r accepted rejects
-accepted_unrejected APlainGeometry bytes r accepted rejects = plain_unrejected bytes r accepted (plain_split bytes r rejects)
 accepted_unrejected ARulelessFile bytes r accepted rejects = ruleless_unrejected bytes r accepted (ruleless_split bytes r rejects)
 
 pub one_rejection : (kind : Kind) (bytes : List ℕ) (r s : Refusal) → Rejects kind bytes r → Rejects kind bytes s → r ≡ s
 one_rejection AGeometry bytes r s first second = one_of_geometry bytes r s (geometry_split bytes r first) (geometry_split bytes s second)
-one_rejection APlainGeometry bytes r s first second = one_of_plain bytes r s (plain_split bytes r first) (plain_split bytes s second)
 one_rejection ARulelessFile bytes r s first second = one_of_ruleless bytes r s (ruleless_split bytes r first) (ruleless_split bytes s second)
 
 -- a refusal of the bytes of a file is one that its kind may have
@@ -142,16 +102,6 @@ geometry_can bytes Out rejects = rejects
 geometry_can bytes Memory rejects = rejects
 geometry_can bytes (NotYet part) rejects = rejects
 
-plain_can : (bytes : List ℕ) (r : Refusal) → PlainRejects bytes r → CanReject APlainGeometry r
-plain_can bytes (Words fault) rejects = rejects
-plain_can bytes (In2d fault) rejects = tt
-plain_can bytes (Geometry fault) rejects = tt
-plain_can bytes (Rules fault) rejects = rejects
-plain_can bytes (Folder name number) rejects = rejects
-plain_can bytes Out rejects = rejects
-plain_can bytes Memory rejects = rejects
-plain_can bytes (NotYet part) rejects = rejects.0
-
 ruleless_can : (bytes : List ℕ) (r : Refusal) → RulelessRejects bytes r → CanReject ARulelessFile r
 ruleless_can bytes (Words fault) rejects = rejects
 ruleless_can bytes (In2d fault) rejects = rejects
@@ -164,27 +114,22 @@ ruleless_can bytes (NotYet part) rejects = rejects.0
 
 pub can_reject : (kind : Kind) (bytes : List ℕ) (r : Refusal) → Rejects kind bytes r → CanReject kind r
 can_reject AGeometry bytes r rejects = geometry_can bytes r rejects
-can_reject APlainGeometry bytes r rejects = plain_can bytes r rejects
 can_reject ARulelessFile bytes r rejects = ruleless_can bytes r rejects
 
 -- no file is refused as words are, or as an answer is, or by the folder, for its bytes
 pub no_words_there : (kind : Kind) (fault : WordsFault) → ¬ CanReject kind (Words fault)
 no_words_there AGeometry fault can = can
-no_words_there APlainGeometry fault can = can
 no_words_there ARulelessFile fault can = can
 
 pub no_out_there : (kind : Kind) → ¬ CanReject kind Out
 no_out_there AGeometry can = can
-no_out_there APlainGeometry can = can
 no_out_there ARulelessFile can = can
 
 pub no_folder_there : (kind : Kind) (name : List ℕ) (number : ℕ) → ¬ CanReject kind (Folder name number)
 no_folder_there AGeometry name number can = can
-no_folder_there APlainGeometry name number can = can
 no_folder_there ARulelessFile name number can = can
 
 -- the first part that isn't built is one of words
 pub no_first_there : (kind : Kind) → ¬ CanReject kind (NotYet 1)
 no_first_there AGeometry can = can
-no_first_there APlainGeometry can = absurd cc
 no_first_there ARulelessFile can = absurd cc

@@ -30,9 +30,9 @@ makes_names (GeomJob geometry) files made makes = ap names_of_puts makes.puts
 pub makes_accepted : (job : Job) (files : Files) (made : Made) → Makes job files made → AreAccepted (takes_of job) files
 makes_accepted (MeshJob task) files made makes = let rules = makes.rules in (
   record {
-    bytes = makes.geometry.held.bytes;
-    holds = makes.geometry.held.holds;
-    accepted = record { raw = makes.geometry.raw; geometry = makes.input.geometry; written = makes.geometry.held.written; plain = makes.geometry.plain };
+    bytes = makes.geometry.bytes;
+    holds = makes.geometry.holds;
+    accepted = record { raw = makes.raw; geometry = makes.input.geometry; written = makes.geometry.written };
   },
   (record { bytes = rules.bytes; holds = rules.holds; accepted = subst (λ (rs : List Rule). AreRules rules.bytes rs) makes.ruleless rules.are }, tt),
 )

@@ -1,5 +1,5 @@
 -- What the verbs make of the files that they take, and why they make nothing: one section for a verb.
-use Rattle.std.proofs.Common.{◌≡◌, inl, inr, ℕ, ◌≤◌, true, false, List, [], ◌∷◌, sym, subst, refl, ap, ◌∙◌}
+use Rattle.std.proofs.Common.{◌≡◌, inl, inr, ℕ, ◌≤◌, List, [], ◌∷◌, sym, subst, refl, ap, ◌∙◌}
 use Rattle.std.specs.Prelude.{Option}
 use Rattle.folder_io.specs.Causes.{Told}
 use Rattle.folder_io.specs.Names.{Files}
@@ -12,12 +12,12 @@ use Rattle.netmesh_cli.specs.declared.outcome.Refusal.{Refusal}
 use Rattle.netmesh_cli.specs.declared.outcome.Refusal.TheVariants.{Words, In2d, Geometry, Rules, Folder, Out, Memory, NotYet}
 use Rattle.netmesh_cli.specs.Commands.{MeshTask}
 use Rattle.netmesh_cli.specs.Words.{no_options}
-use Rattle.netmesh_cli.specs.Accepted.{AreRules, gives_size}
+use Rattle.netmesh_cli.specs.Accepted.{AreRules}
 use Rattle.netmesh_cli.specs.Causes.{HoldsWithin, IsMemory}
-use Rattle.netmesh_cli.specs.Taking.{HoldsAccepted, HoldsRejected, TakeRefused, geometry_at, plain_geometry_at, ruleless_file_at}
+use Rattle.netmesh_cli.specs.Taking.{HoldsAccepted, TakeRefused, geometry_at, ruleless_file_at}
 use Rattle.netmesh_cli.specs.Run.{plain_input, run_of, log_of, mesh_of, line_of, outcome_of, IsCovered}
 use Rattle.netmesh_cli.specs.Shown.{shown_text}
-use Rattle.netmesh_cli.specs.Jobs.{Job, MeshJob, GeomJob, Made, IsMeshed, IsDrawn, HoldsGeometry, HoldsPlain, HoldsRules}
+use Rattle.netmesh_cli.specs.Jobs.{Job, MeshJob, GeomJob, Made, IsMeshed, IsDrawn, HoldsGeometry, HoldsRules}
 use Rattle.netmesh_cli.specs.Served.{MakeRefused}
 use Rattle.netmesh_cli.proofs.Tolds.{told_weaker, told_both}
 use Rattle.netmesh_cli.proofs.Firsts.{take_since}
@@ -42,40 +42,19 @@ geom_refused name s0 s1 r refused = make_refused (GeomJob name) s0 s1 r (inl ref
 pub geom_made : (name : List ℕ) (held : Option Files) (raw : RawGeometry) (g : PlanarMap) (made : Made) → made.puts ≡ [] → made.answer ≡ shown_text raw g → made.outcome ≡ Shown → Told held (λ files. HoldsGeometry files name raw g) → Told held (λ files. IsDrawn name files made)
 geom_made name held raw g made puts answer outcome told = told_weaker held _ (λ files. IsDrawn name files made) (λ files holds. record { raw = raw; geometry = g; held = holds; puts = puts; answer = answer; outcome = outcome }) told
 
--- ---- a geometry without sizes
-
-plain_bytes : (held : Option Files) (r : Refusal) (name : List ℕ) → ((files : Files) → HoldsRejected files r (geometry_at name) → HoldsRejected files r (plain_geometry_at name)) → Told held (λ files. HoldsRejected files r (geometry_at name)) → Told held (λ files. HoldsRejected files r (plain_geometry_at name))
-plain_bytes held r name all told = told_weaker held _ _ all told
-
-pub plain_refused : (s0 s1 : FolderState) (r : Refusal) (name : List ℕ) → TakeRefused s0 s1 r (geometry_at name) → TakeRefused s0 s1 r (plain_geometry_at name)
-plain_refused s0 s1 (Words fault) name refused = absurd refused.0
-plain_refused s0 s1 (In2d fault) name refused = (tt, plain_bytes s0.held (In2d fault) name (λ files h. record { bytes = h.bytes; holds = h.holds; rejected = h.rejected }) refused.1)
-plain_refused s0 s1 (Geometry fault) name refused = (tt, plain_bytes s0.held (Geometry fault) name (λ files h. record { bytes = h.bytes; holds = h.holds; rejected = h.rejected }) refused.1)
-plain_refused s0 s1 (Rules fault) name refused = absurd refused.0
-plain_refused s0 s1 (Folder named number) name refused = refused
-plain_refused s0 s1 Out name refused = absurd refused.0
-plain_refused s0 s1 Memory name refused = tt
-plain_refused s0 s1 (NotYet part) name refused = absurd refused.0
-
-pub sized_refused : (s0 s1 : FolderState) (name : List ℕ) (raw : RawGeometry) (g : PlanarMap) → Told s0.held (λ files. HoldsGeometry files name raw g) → gives_size raw ≡ true → TakeRefused s0 s1 (NotYet 2) (plain_geometry_at name)
-sized_refused s0 s1 name raw g told sized = (refl, told_weaker s0.held _ _ (λ files h. record { bytes = h.bytes; holds = h.holds; rejected = (refl, record { raw = raw; geometry = g; written = h.written; sized = sized }) }) told)
-
-pub plain_held : (held : Option Files) (name : List ℕ) (raw : RawGeometry) (g : PlanarMap) → Told held (λ files. HoldsGeometry files name raw g) → gives_size raw ≡ false → Told held (λ files. HoldsPlain files name g)
-plain_held held name raw g told plain = told_weaker held _ _ (λ files h. record { raw = raw; held = h; plain = plain }) told
-
-pub plain_accepted : (held : Option Files) (name : List ℕ) (g : PlanarMap) → Told held (λ files. HoldsPlain files name g) → Told held (λ files. HoldsAccepted files (plain_geometry_at name))
-plain_accepted held name g told = told_weaker held _ _ (λ files h. record { bytes = h.held.bytes; holds = h.held.holds; accepted = record { raw = h.raw; geometry = g; written = h.held.written; plain = h.plain } }) told
-
 -- ---- mesh
+
+geometry_accepted : (held : Option Files) (name : List ℕ) (raw : RawGeometry) (g : PlanarMap) → Told held (λ files. HoldsGeometry files name raw g) → Told held (λ files. HoldsAccepted files (geometry_at name))
+geometry_accepted held name raw g told = told_weaker held _ _ (λ files h. record { bytes = h.bytes; holds = h.holds; accepted = record { raw = raw; geometry = g; written = h.written } }) told
 
 pub ruleless_held : (held : Option Files) (name taken bytes : List ℕ) → bytes ≡ taken → Told held (λ files. HoldsWithin 1048576 files name taken) → AreRules bytes [] → Told held (λ files. HoldsRules files name [])
 ruleless_held held name taken bytes same told are = told_weaker held _ _ (λ files h. record { bytes = taken; holds = h; are = subst (λ (b : List ℕ). AreRules b []) same are }) told
 
-pub mesh_at_geometry : (task : MeshTask) (s0 s1 : FolderState) (r : Refusal) → TakeRefused s0 s1 r (plain_geometry_at task.geometry) → MakeRefused (MeshJob task) s0 s1 r
+pub mesh_at_geometry : (task : MeshTask) (s0 s1 : FolderState) (r : Refusal) → TakeRefused s0 s1 r (geometry_at task.geometry) → MakeRefused (MeshJob task) s0 s1 r
 mesh_at_geometry task s0 s1 r refused = make_refused (MeshJob task) s0 s1 r (inl refused)
 
-pub mesh_at_rules : (task : MeshTask) (s0 s1 s2 : FolderState) (g : PlanarMap) (r : Refusal) → s1.held ≡ s0.held → s0.faults ≤ s1.faults → Told s0.held (λ files. HoldsPlain files task.geometry g) → TakeRefused s1 s2 r (ruleless_file_at task.rules) → MakeRefused (MeshJob task) s0 s2 r
-mesh_at_rules task s0 s1 s2 g r same kept plain refused = make_refused (MeshJob task) s0 s2 r (inr (plain_accepted s0.held task.geometry g plain, inl (take_since s0 s1 s2 r (ruleless_file_at task.rules) same kept refused)))
+pub mesh_at_rules : (task : MeshTask) (s0 s1 s2 : FolderState) (raw : RawGeometry) (g : PlanarMap) (r : Refusal) → s1.held ≡ s0.held → s0.faults ≤ s1.faults → Told s0.held (λ files. HoldsGeometry files task.geometry raw g) → TakeRefused s1 s2 r (ruleless_file_at task.rules) → MakeRefused (MeshJob task) s0 s2 r
+mesh_at_rules task s0 s1 s2 raw g r same kept holds refused = make_refused (MeshJob task) s0 s2 r (inr (geometry_accepted s0.held task.geometry raw g holds, inl (take_since s0 s1 s2 r (ruleless_file_at task.rules) same kept refused)))
 
 -- what the run of a geometry gives
 pub record IsRunOf (task : MeshTask) (g : PlanarMap) (made : Made) : Type 0 where
@@ -93,10 +72,11 @@ run_of_texts task g made log mesh line end puts answer outcome is_log is_mesh is
   covered = covered;
 }
 
-pub mesh_made : (task : MeshTask) (h0 h1 : Option Files) (g : PlanarMap) (made : Made) → task.options ≡ no_options → h1 ≡ h0 → Told h0 (λ files. HoldsPlain files task.geometry g) → Told h1 (λ files. HoldsRules files task.rules []) → IsRunOf task g made → Told h0 (λ files. IsMeshed task files made)
-mesh_made task h0 h1 g made built same plain rules run = told_both h0 _ _ (λ files. IsMeshed task files made)
+pub mesh_made : (task : MeshTask) (h0 h1 : Option Files) (raw : RawGeometry) (g : PlanarMap) (made : Made) → task.options ≡ no_options → h1 ≡ h0 → Told h0 (λ files. HoldsGeometry files task.geometry raw g) → Told h1 (λ files. HoldsRules files task.rules []) → IsRunOf task g made → Told h0 (λ files. IsMeshed task files made)
+mesh_made task h0 h1 raw g made built same holds rules run = told_both h0 _ _ (λ files. IsMeshed task files made)
     (λ files p r. record {
       input = plain_input g;
+      raw = raw;
       geometry = p;
       rules = r;
       ruleless = refl;
@@ -106,4 +86,4 @@ mesh_made task h0 h1 g made built same plain rules run = told_both h0 _ _ (λ fi
       outcome = run.outcome;
       covered = run.covered;
     })
-    plain (subst (λ (h : Option Files). Told h (λ files. HoldsRules files task.rules [])) same rules)
+    holds (subst (λ (h : Option Files). Told h (λ files. HoldsRules files task.rules [])) same rules)

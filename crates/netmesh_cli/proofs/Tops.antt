@@ -174,6 +174,7 @@ served_answers job apart outcome s0 s1 o0 o1 ends served nothing = record {
 mesh_served : (task : MeshTask) (outcome : Outcome) (w0 w1 : Option (List ℕ)) (old new : Files) → IsServed (MeshJob task) outcome w0 w1 old new → HoldsMesh task outcome w0 w1 old new
 mesh_served task outcome w0 w1 old new s = let m = s.makes in record {
   input = m.input;
+  raw = m.raw;
   geometry = m.geometry;
   rules = m.rules;
   ruleless = m.ruleless;

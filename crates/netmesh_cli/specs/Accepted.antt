@@ -4,14 +4,11 @@
 -- IsGeometryText    it is accepted, and this is it on the grid
 -- IsTextFault       why they are the text of none
 -- IsGeometryFault   why the geometry that they are the text of is not accepted
--- gives_size        whether a geometry gives a size that has an effect
+-- HasGeometry       they are the text of an accepted geometry
 -- AreRules          the bytes are a rule file with these rules
 -- IsRulesFault      why they are no rule file
-use Rattle.std.specs.Prelude.{◌≡◌, ◌≢◌, ℕ, Bool, true, false, ◌||◌, List, [], Option, None, Some}
-use Rattle.std.specs.List.{list_any}
-use Rattle.std.specs.Int.{is_positive}
+use Rattle.std.specs.Prelude.{◌≢◌, ℕ, List, []}
 use Rattle.word_scan.specs.Scan.{words_of}
-use Rattle.word_scan.specs.declared.decimals.Dec.{Dec}
 use Rattle.in2d_reader.specs.declared.geometry.RawGeometry.{RawGeometry}
 use Rattle.in2d_reader.specs.declared.refusal.In2dRefusal.{In2dRefusal}
 use Rattle.in2d_reader.specs.declared.refusal.In2dRefusal.TheVariants.{Memory as NoMemoryToRead}
@@ -53,37 +50,11 @@ pub record IsGeometryFault (bytes : List ℕ) (fault : GeomRefusal) : Type 0 whe
   pub named : fault ≢ NoMemoryToCheck
   pub refused : IsRefusal raw fault
 
--- whether a greatest size is given that has an effect: one above 0
-abbrev pub has_size : Option Dec → Bool
-has_size None = false
-has_size (Some size) = is_positive size.digits
-
--- whether some point, segment or material has such a size
-abbrev pub gives_size : RawGeometry → Bool
-gives_size raw =
-    list_any (λ row. has_size row.maxh) raw.points
-    || (list_any (λ row. has_size row.maxh) raw.segments
-    || list_any (λ row. has_size row.maxh) raw.materials)
-
 -- the bytes are the text of an accepted geometry
 pub record HasGeometry (bytes : List ℕ) : Type 0 where
   pub raw : RawGeometry
   pub geometry : PlanarMap
   pub written : IsGeometryText bytes raw geometry
-
--- and it gives no size
-pub record HasPlainGeometry (bytes : List ℕ) : Type 0 where
-  pub raw : RawGeometry
-  pub geometry : PlanarMap
-  pub written : IsGeometryText bytes raw geometry
-  pub plain : gives_size raw ≡ false
-
--- and it gives one
-pub record HasSizedGeometry (bytes : List ℕ) : Type 0 where
-  pub raw : RawGeometry
-  pub geometry : PlanarMap
-  pub written : IsGeometryText bytes raw geometry
-  pub sized : gives_size raw ≡ true
 
 -- ---- rule files
 

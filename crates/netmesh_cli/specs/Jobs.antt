@@ -7,7 +7,7 @@
 -- EndsSo        the outcomes that it may have, where it isn't refused
 -- Made          what is made: the files to be put, the answer, and the outcome
 -- Makes         this is made of the files that are held
-use Rattle.std.specs.Prelude.{◌≡◌, false, ℕ, List, [], ◌∷◌, map}
+use Rattle.std.specs.Prelude.{◌≡◌, ℕ, List, [], ◌∷◌, map}
 use Rattle.folder_io.specs.Names.{Files}
 use Rattle.in2d_reader.specs.declared.geometry.RawGeometry.{RawGeometry}
 use Rattle.rule_reader.specs.declared.rule.Rule.{Rule}
@@ -21,9 +21,9 @@ use Rattle.netmesh_cli.specs.declared.asked.Asked.{Asked}
 use Rattle.netmesh_cli.specs.declared.asked.Asked.TheVariants.{Mesh, Geom}
 use Rattle.netmesh_cli.specs.Commands.{Task, MeshTask, MeshOf, GeomOf}
 use Rattle.netmesh_cli.specs.Words.{no_options}
-use Rattle.netmesh_cli.specs.Accepted.{IsGeometryText, AreRules, gives_size}
+use Rattle.netmesh_cli.specs.Accepted.{IsGeometryText, AreRules}
 use Rattle.netmesh_cli.specs.Causes.{HoldsWithin}
-use Rattle.netmesh_cli.specs.Taking.{Taken, geometry_at, plain_geometry_at, ruleless_file_at}
+use Rattle.netmesh_cli.specs.Taking.{Taken, geometry_at, ruleless_file_at}
 use Rattle.netmesh_cli.specs.Run.{MeshInput, run_of, log_of, mesh_of, line_of, outcome_of, IsCovered}
 use Rattle.netmesh_cli.specs.Shown.{shown_text}
 
@@ -61,7 +61,7 @@ IsBuilt (GeomJob geometry) = Unit {0}
 -- ---- what is taken and put
 
 abbrev pub takes_of : Job → List Taken
-takes_of (MeshJob task) = plain_geometry_at task.geometry ∷ ruleless_file_at task.rules ∷ []
+takes_of (MeshJob task) = geometry_at task.geometry ∷ ruleless_file_at task.rules ∷ []
 takes_of (GeomJob geometry) = geometry_at geometry ∷ []
 
 -- the log is put before the mesh
@@ -112,12 +112,6 @@ pub record HoldsGeometry (files : Files) (name : List ℕ) (raw : RawGeometry) (
   pub holds : HoldsWithin 1048576 files name bytes
   pub written : IsGeometryText bytes raw g
 
--- one that gives no size
-pub record HoldsPlain (files : Files) (name : List ℕ) (g : PlanarMap) : Type 0 where
-  pub raw : RawGeometry
-  pub held : HoldsGeometry files name raw g
-  pub plain : gives_size raw ≡ false
-
 -- a rule file with these rules is held under the name
 pub record HoldsRules (files : Files) (name : List ℕ) (rules : List Rule) : Type 0 where
   pub bytes : List ℕ
@@ -128,7 +122,8 @@ pub record HoldsRules (files : Files) (name : List ℕ) (rules : List Rule) : Ty
 -- put, its summary line is written, and the outcome is that of its end
 pub record IsMeshed (task : MeshTask) (files : Files) (made : Made) : Type 0 where
   pub input : MeshInput
-  pub geometry : HoldsPlain files task.geometry input.geometry
+  pub raw : RawGeometry
+  pub geometry : HoldsGeometry files task.geometry raw input.geometry
   pub rules : HoldsRules files task.rules input.rules
   pub ruleless : input.rules ≡ []
   pub options : input.options ≡ task.options

@@ -8,27 +8,23 @@
 use Rattle.std.specs.Prelude.{◌≡◌, ℕ, List, []}
 use Rattle.netmesh_cli.specs.declared.outcome.Refusal.{Refusal}
 use Rattle.netmesh_cli.specs.declared.outcome.Refusal.TheVariants.{In2d, Geometry, Rules, NotYet}
-use Rattle.netmesh_cli.specs.Accepted.{HasGeometry, HasPlainGeometry, HasSizedGeometry, IsTextFault, IsGeometryFault, AreRules, HasRules, IsRulesFault}
+use Rattle.netmesh_cli.specs.Accepted.{HasGeometry, IsTextFault, IsGeometryFault, AreRules, HasRules, IsRulesFault}
 
 -- what a file is taken for
 pub data Kind : Type 0 where
   -- the text of an accepted geometry
   AGeometry : Kind
-  -- such a text that gives no size; so far `mesh` takes no other
-  APlainGeometry : Kind
   -- a rule file that holds no rule; so far `mesh` takes no other
   ARulelessFile : Kind
 
 -- how many bytes it may have
 abbrev pub limit_of : Kind → ℕ
 limit_of AGeometry = 1048576
-limit_of APlainGeometry = 1048576
 limit_of ARulelessFile = 1048576
 
 -- the bytes are accepted as a file of this kind
 abbrev pub Accepts : Kind → List ℕ → Type 0
 Accepts AGeometry bytes = HasGeometry bytes
-Accepts APlainGeometry bytes = HasPlainGeometry bytes
 Accepts ARulelessFile bytes = AreRules bytes []
 
 -- the bytes are the text of no geometry, or of one that isn't accepted
@@ -36,11 +32,6 @@ abbrev pub GeometryRejects : List ℕ → Refusal → Type 0
 GeometryRejects bytes (In2d fault) = IsTextFault bytes fault
 GeometryRejects bytes (Geometry fault) = IsGeometryFault bytes fault
 GeometryRejects bytes _ = ⊥
-
--- or of one that gives a size
-abbrev pub PlainRejects : List ℕ → Refusal → Type 0
-PlainRejects bytes (NotYet part) = (part ≡ 2) × HasSizedGeometry bytes
-PlainRejects bytes refusal = GeometryRejects bytes refusal
 
 -- the bytes are no rule file, or one that holds a rule
 abbrev pub RulelessRejects : List ℕ → Refusal → Type 0
@@ -51,7 +42,6 @@ RulelessRejects bytes _ = ⊥
 -- the bytes are refused so as a file of this kind
 abbrev pub Rejects : Kind → List ℕ → Refusal → Type 0
 Rejects AGeometry = GeometryRejects
-Rejects APlainGeometry = PlainRejects
 Rejects ARulelessFile = RulelessRejects
 
 -- a refusal of a geometry
@@ -59,10 +49,6 @@ abbrev pub IsOfGeometry : Refusal → Type 0
 IsOfGeometry (In2d fault) = Unit {0}
 IsOfGeometry (Geometry fault) = Unit {0}
 IsOfGeometry _ = ⊥
-
-abbrev pub IsOfPlainGeometry : Refusal → Type 0
-IsOfPlainGeometry (NotYet part) = part ≡ 2
-IsOfPlainGeometry refusal = IsOfGeometry refusal
 
 abbrev pub IsOfRulelessFile : Refusal → Type 0
 IsOfRulelessFile (Rules fault) = Unit {0}
@@ -72,5 +58,4 @@ IsOfRulelessFile _ = ⊥
 -- a file of this kind may be refused so
 abbrev pub CanReject : Kind → Refusal → Type 0
 CanReject AGeometry = IsOfGeometry
-CanReject APlainGeometry = IsOfPlainGeometry
 CanReject ARulelessFile = IsOfRulelessFile

@@ -19,9 +19,8 @@ use Rattle.mesh_run.specs.declared.WholeRun.{WholeRun}
 use Rattle.mesh_run.specs.declared.domain_run.DomainRun.{DomainRun}
 use Rattle.mesh_run.specs.declared.End.{End}
 use Rattle.mesh_run.specs.declared.End.TheVariants.{Done as DoneEnd, Stuck as StuckEnd, Stopped as StoppedEnd}
-use Rattle.mesh_run.specs.Boundary.{whole_pieces}
 use Rattle.mesh_run.specs.Opening.{front_edges}
-use Rattle.mesh_run.specs.Whole.{unmeshed_whole}
+use Rattle.mesh_run.specs.Whole.{unmeshed_geometry}
 use Rattle.mesh_run.specs.Mesh.{mesh_of_run}
 use Rattle.vol_format.specs.Vol.{vol_text}
 use Rattle.run_log.specs.Log.{log_text}
@@ -56,13 +55,9 @@ run_options options = record {
   limit = options.steps;
 }
 
--- the whole run
+-- the whole run: the segments are cut by the sizes that the geometry gives
 abbrev pub run_of : MeshInput → WholeRun
-run_of input = unmeshed_whole
-    input.geometry.shift
-    (run_options input.options)
-    (whole_pieces input.geometry.points input.geometry.segments)
-    input.geometry.segments
+run_of input = unmeshed_geometry input.geometry (run_options input.options)
 
 -- the bytes of the log file
 abbrev pub log_of : MeshInput → List ℕ

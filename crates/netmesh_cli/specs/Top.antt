@@ -10,6 +10,7 @@ use Rattle.std.specs.FinMap as finite
 use Rattle.folder_io.specs.Causes.{Rose, Told, ToldBoth, GrowsByPrefix}
 use Rattle.folder_io.specs.Names.{Files}
 use Rattle.folder_io.specs.States.{FolderState, SinkState}
+use Rattle.in2d_reader.specs.declared.geometry.RawGeometry.{RawGeometry}
 use Rattle.netmesh_cli.specs.declared.outcome.Outcome.{Outcome}
 use Rattle.netmesh_cli.specs.declared.outcome.Outcome.TheVariants.{Done, Stuck, Stopped, Good, Bad, Shown, Refused}
 use Rattle.netmesh_cli.specs.declared.outcome.Refusal.{Refusal}
@@ -20,7 +21,7 @@ use Rattle.netmesh_cli.specs.Words.{AskForUnbuilt}
 use Rattle.netmesh_cli.specs.Causes.{IsMemory, IsUntaken}
 use Rattle.netmesh_cli.specs.Taking.{AreAccepted, FirstRefused}
 use Rattle.netmesh_cli.specs.Run.{MeshInput, run_of, log_of, mesh_of, line_of, outcome_of, IsCovered}
-use Rattle.netmesh_cli.specs.Jobs.{Job, takes_of, puts_of, EndsSo, HoldsPlain, HoldsRules}
+use Rattle.netmesh_cli.specs.Jobs.{Job, takes_of, puts_of, EndsSo, HoldsGeometry, HoldsRules}
 use Rattle.netmesh_cli.specs.Served.{IsServed, IsAnswer, RefusalCause, RefusalStands, Keeps}
 use Rattle.netmesh_cli.specs.Lines.{refusal_line}
 
@@ -148,7 +149,8 @@ pub record Exactly (job : Job) (outcome : Outcome) (failed untaken : Type 0) (fi
 pub record HoldsMesh (task : MeshTask) (outcome : Outcome) (written now_written : Option (List ℕ)) (old new : Files) : Type 0 where
   -- the geometry under GEOMETRY and the rules under RULES are accepted: each file has at most 1,048,576 bytes
   pub input : MeshInput
-  pub geometry : HoldsPlain old task.geometry input.geometry
+  pub raw : RawGeometry
+  pub geometry : HoldsGeometry old task.geometry raw input.geometry
   pub rules : HoldsRules old task.rules input.rules
   pub ruleless : input.rules ≡ []
   pub options : input.options ≡ task.options

@@ -1,25 +1,21 @@
 //! The geometry of a file: its text is read, checked, and moved to the grid.
 
-ghost use Rattle.std.specs.Prelude.{◌≡◌, ◌≤◌, ◌||◌, IfOk, IfErr};
-ghost use Rattle.std.specs.List.{list_any};
+ghost use Rattle.std.specs.Prelude.{◌≡◌, ◌≤◌, IfOk, IfErr};
 ghost use Rattle.folder_io.specs.Causes.{Told};
 ghost use Rattle.in2d_reader.specs.Normal.{CanPrint};
 ghost use Rattle.geom_check.specs.Placed.{IsReadable};
 ghost use Rattle.geom_check.specs.Geometry.{IsGeometryOf};
-ghost use Rattle.netmesh_cli.specs.Accepted.{IsText, IsGeometryText, has_size, gives_size};
+ghost use Rattle.netmesh_cli.specs.Accepted.{IsText, IsGeometryText};
 ghost use Rattle.netmesh_cli.specs.Kinds.{GeometryRejects};
-ghost use Rattle.netmesh_cli.specs.Taking.{TakeRefused, geometry_at, plain_geometry_at};
-ghost use Rattle.netmesh_cli.specs.Jobs.{HoldsGeometry, HoldsPlain};
+ghost use Rattle.netmesh_cli.specs.Taking.{TakeRefused, geometry_at};
+ghost use Rattle.netmesh_cli.specs.Jobs.{HoldsGeometry};
 ghost use Rattle.netmesh_cli.specs.BytesRefused.{ReadRefused, CheckRefused, MayRefuse};
 
 use super::{FILE_LIMIT, Refusal, files};
 use folder_io::Folder;
 use geom_check::{GeomRefusal, Geometry, check};
-use in2d_reader::{Dec, In2dRefusal, MaterialRow, PointRow, RawGeometry, SegmentRow, read_in2d};
+use in2d_reader::{In2dRefusal, RawGeometry, read_in2d};
 use std::alloc::Global;
-
-/// The part that sizes are, which are not built yet.
-const SIZES_PART: u32 = 2;
 
 /// A geometry by the rows of its text, and as it lies on the grid.
 #[derive(Debug, Drop)]
@@ -81,59 +77,4 @@ pub fn take_geometry<F: Folder>(
 {
     let bytes = files::take(alloc, folder, name, FILE_LIMIT)?;
     read_geometry(alloc, &bytes)
-}
-
-/// Takes the file of a geometry and reads it. One that gives a size is refused.
-pub fn take_plain<F: Folder>(alloc: Global, folder: &mut F, name: &str) -> Result<Geometry, Refusal>
-    ensures held { (F.state folder.new).held ≡ (F.state folder.old).held }
-    ensures accepted { IfOk result (λ g. Told (F.state folder.old).held (λ files. HoldsPlain files name.now g)) }
-    ensures refused { IfErr result (λ refusal. TakeRefused
-        (F.state folder.old) (F.state folder.new) refusal (plain_geometry_at name.now)) }
-    ensures rises { (F.state folder.old).faults ≤ (F.state folder.new).faults }
-{
-    let read = take_geometry(alloc, folder, name)?;
-    if gives_size(&read.rows) {
-        return Err(Refusal::NotYet { part: SIZES_PART });
-    }
-    Ok(read.geometry)
-}
-
-/// Whether a greatest size is given that has an effect: one above 0.
-fn has_size(maxh: &Option<Dec>) -> bool
-    ensures { result ≡ has_size maxh.now }
-{
-    match maxh {
-        Some(size) => size.digits > 0,
-        None => false,
-    }
-}
-
-/// Whether some point has such a size.
-fn has_sized_point(rows: &[PointRow]) -> bool
-    ensures { result ≡ list_any (λ row. has_size row.maxh) rows.now }
-{
-    rows.iter().any(|row| has_size(&row.maxh))
-}
-
-/// Whether some segment has such a size.
-fn has_sized_segment(rows: &[SegmentRow]) -> bool
-    ensures { result ≡ list_any (λ row. has_size row.maxh) rows.now }
-{
-    rows.iter().any(|row| has_size(&row.maxh))
-}
-
-/// Whether some material has such a size.
-fn has_sized_material(rows: &[MaterialRow]) -> bool
-    ensures { result ≡ list_any (λ row. has_size row.maxh) rows.now }
-{
-    rows.iter().any(|row| has_size(&row.maxh))
-}
-
-/// Whether some point, segment or material has such a size.
-fn gives_size(rows: &RawGeometry) -> bool
-    ensures { result ≡ gives_size rows.now }
-{
-    has_sized_point(rows.points.as_slice())
-        || has_sized_segment(rows.segments.as_slice())
-        || has_sized_material(rows.materials.as_slice())
 }

@@ -9,7 +9,7 @@ ghost use Rattle.netmesh_cli.specs.Jobs.{names_of_puts, puts_of, task_of_mesh};
 ghost use Rattle.netmesh_cli.specs.Served.{MakeRefused};
 
 use super::command::MeshCall;
-use super::geometry::take_plain;
+use super::geometry::take_geometry;
 use super::made::{Made, Put};
 use super::rule_file::take_rules;
 use super::texts::{Texts, run_texts};
@@ -76,9 +76,9 @@ pub fn make_mesh<'a, F: Folder>(
         (MeshJob (task_of_mesh call.now)) (F.state folder.old) (F.state folder.new)) }
     ensures rises { (F.state folder.old).faults ≤ (F.state folder.new).faults }
 {
-    let geometry = take_plain(alloc, folder, call.geometry)?;
+    let read = take_geometry(alloc, folder, call.geometry)?;
     take_rules(alloc, folder, call.rules)?;
-    let texts = run_texts(alloc, &geometry)?;
+    let texts = run_texts(alloc, &read.geometry)?;
     let made = made_of_texts(alloc, call, texts)?;
     Ok(made)
 }

@@ -8,7 +8,7 @@ ghost use Rattle.netmesh_cli.specs.Run.{mesh_of as mesh_text_of};
 use super::Refusal;
 use geom_check::Geometry;
 use grid_geom::LONGEST;
-use mesh_run::{End, Options, mesh_of, open_all, uncut};
+use mesh_run::{End, Options, mesh_of, open_geometry};
 use run_log::{write_log, write_summary};
 use std::alloc::Global;
 use vol_format::write_vol;
@@ -31,7 +31,7 @@ pub struct Texts {
     pub end: End,
 }
 
-/// The texts of the run of a geometry by no rule.
+/// The texts of the run of a geometry by no rule. Its segments are cut by its own sizes.
 pub fn run_texts(alloc: Global, geometry: &Geometry) -> Result<Texts, Refusal>
     ensures log { IfOk result (λ t. t.log.items ≡ log_of (plain_input geometry.now)) }
     ensures mesh { IfOk result (λ t. t.mesh.items ≡ mesh_text_of (plain_input geometry.now)) }
@@ -40,10 +40,8 @@ pub fn run_texts(alloc: Global, geometry: &Geometry) -> Result<Texts, Refusal>
     ensures covered { IfOk result (λ t. IsCovered (plain_input geometry.now)) }
     ensures refused { IfErr result IsMemory }
 {
-    let segments = geometry.segments();
-    let pieces = uncut(alloc, geometry.points(), segments)?;
-    let run = open_all(alloc, geometry.shift(), PLAIN_OPTIONS, pieces, segments)?;
-    let mesh = mesh_of(alloc, &run, segments)?;
+    let run = open_geometry(alloc, geometry, PLAIN_OPTIONS)?;
+    let mesh = mesh_of(alloc, &run, geometry.segments())?;
     Ok(Texts {
         log: write_log(alloc, &run)?,
         mesh: write_vol(alloc, &mesh)?,

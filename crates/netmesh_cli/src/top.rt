@@ -67,8 +67,7 @@ fn answered<F: Folder, O: Sink>(
 ///
 /// Refused are words at fault; `mesh` with an option, and the other verbs; a file that isn't there, is
 /// too long or can't be taken or put; a text of no geometry; a geometry that isn't accepted; and by
-/// `mesh` a geometry that gives a size above 0, bytes that are no rule file, and a rule file with a
-/// rule. A refusal writes its line. Where memory is refused the outcome says so, and no clause says when
+/// `mesh` bytes that are no rule file, and a rule file with a rule. A refusal writes its line. Where memory is refused the outcome says so, and no clause says when
 /// it may be.
 pub fn netmesh<R: Threads + Sync, F: Folder, O: Sink, G: Gate + Sync>(
     _rt: &R,
