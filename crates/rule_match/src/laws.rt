@@ -13,6 +13,8 @@ ghost use Rattle.rule_match.specs.declared.progress.Note.{Note as Noted};
 ghost use Rattle.rule_match.specs.Candidate.{Attempt, IsCandidate};
 ghost use Rattle.rule_match.specs.Least.{HasNone, IsLeast};
 ghost use Rattle.rule_match.specs.Refused.{IsRefusedBy, IsExcused};
+ghost use Rattle.rule_match.specs.declared.near.NearPoint.{NearPoint as NearOne};
+ghost use Rattle.rule_match.specs.Around.{IsAround, setting_of, IsTried};
 ghost use Rattle.rule_match.specs.Fitting.{Tie, fits_so_far, in_order, IsOrder, renumbered, DoesFit};
 
 /// A line has at most one least candidate at a class: its rule and its assignment are fixed.
@@ -54,4 +56,11 @@ pub fn law_order()
         in_order places (in_order plan a) ≡ a }
     ensures so_far { (ties : List Tie) (b rest : List ℕ) →
         fits_so_far ties (b ++ rest) ≡ true → fits_so_far ties b ≡ true }
+{}
+
+/// A candidate's points are met by the search: where the near points and lines are those of the front,
+/// near points stand for its points and meet each test that looks at the points alone.
+pub fn law_tried()
+    ensures { (st : State) (t : Attempt) (near : List NearOne) (lines : List (ℕ × ℕ)) →
+        IsAround st t.frame near lines → IsCandidate st t → IsTried (setting_of t near lines) t.points }
 {}
