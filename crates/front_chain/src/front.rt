@@ -165,7 +165,7 @@ impl Front {
     }
 
     /// Takes memory for so many more points and elements. Whatever it answers, the points, the lines and
-    /// the next line number are as before.
+    /// the next line number are as before. Elements whose lines no number could count are want of memory too.
     pub fn reserve(&mut self, points: usize, elements: usize) -> Result<(), OutOfMemory>
         ensures points { self.new.points ≡ self.old.points }
         ensures lines { self.new.lines ≡ self.old.lines }
