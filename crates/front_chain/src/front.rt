@@ -158,7 +158,8 @@ impl Front {
     /// The first line of the front's walk after this one whose box meets `b`.
     pub fn next_near(&self, b: &Bounds, after: &Near) -> Option<Near>
         requires { IsTrue (is_near self.now b.now after.now.line) }
-        ensures next { option_map (λ near. near.line) result ≡ next_in_walk self.now b.now after.now.line }
+        ensures next { option_map (λ near. near.line) result ≡
+            next_in_walk self.now b.now after.now.line }
         ensures near { IfSome result (λ near. IsTrue (is_near self.now b.now near.line)) }
     {
         met(self.chain.next_near(b, after.line))
