@@ -2,13 +2,13 @@
 use Prim.Native.Nat.{ℕ, zero, suc, ◌+◌, ◌-◌, ◌≤◌, ◌<◌}
 use lib.ListN.{length, set}
 use mathlib.Core.Path.{◌≡◌, refl, sym, ap, ◌∙◌, subst}
-use mathlib.Core.Bool.{Bool, true, false, cond, ◌&&◌, ◌||◌}
+use mathlib.Core.Bool.{Bool, true, false, cond, ◌&&◌}
 use mathlib.Core.List.{List, [], ◌∷◌, ◌++◌}
 use native.Mathlib.Omega.{arith}
 use Rattle.std.specs.Prelude.{nat_eq, Option, Some, None}
 use Rattle.std.specs.Option.{option_map}
-use Rattle.std.specs.List.{AllByRecursion, find, list_any}
-use Rattle.state_law.specs.State.{does_join, glue_line, AreRising}
+use Rattle.std.specs.List.{AllByRecursion, find}
+use Rattle.state_law.specs.State.{glue_line, AreRising}
 use Rattle.front_chain.specs.declared.chain.Side.{Side}
 use Rattle.front_chain.specs.contracts.chain.SidePartialEq.TheImpl as eq
 use Rattle.front_chain.specs.Front.{line_at, number_between}

@@ -10,8 +10,7 @@ use Rattle.std.specs.Prelude.{nat_eq, Option, Some, None}
 use Rattle.std.proofs.lemmas.List.{get_or-set_same, get_or-set_other, length-set, length-append, get_or_append_left}
 use Rattle.std.specs.Map.{lookup}
 use Rattle.grid_geom.specs.declared.Point.{Point}
-use Rattle.state_law.specs.State.{IsListed, does_join, glue_line}
-use Rattle.std.specs.List.{list_any}
+use Rattle.state_law.specs.State.{IsListed, glue_line}
 use Rattle.front_chain.specs.declared.chain.Side.{Side}
 use Rattle.front_chain.specs.Front.{number_between}
 use Rattle.front_chain.specs.Tables.{side_at, lines_from, leaving_of, AreTables}
