@@ -38,7 +38,7 @@ use Rattle.front_chain.proofs.Places.{distinct_push}
 -- what is true of a front is true of each value with the same points, lines, next number, walk and waiting points
 pub front_as : (f g : FrontState) → f.points ≡ g.points → f.lines ≡ g.lines → f.next ≡ g.next → f.walk ≡ g.walk → f.waiting ≡ g.waiting → IsFrontState f → IsFrontState g
 front_as f g a b c d e h = subst IsFrontState (λ i. record { points = a i; lines = b i; next = c i; walk = d i; waiting = e i; spare_points = g.spare_points; spare_lines = g.spare_lines })
-    (record { numbered = h.numbered; on_grid = h.on_grid; rising = h.rising; region = h.region; bounded = h.bounded; walked = h.walked; placed = h.placed })
+    (record { numbered = h.numbered; on_grid = h.on_grid; positive = h.positive; rising = h.rising; region = h.region; bounded = h.bounded; walked = h.walked; placed = h.placed })
 
 -- a place is a front point, settled, or its number waits
 abbrev HasPlace : List Edge → List ℕ → Point → ℕ → Type 0
@@ -73,6 +73,7 @@ pub front_listed : (f : FrontState) (p : Point) → IsFrontState f → IsOnGrid 
 front_listed f p h on new = record {
   numbered = record { different = distinct_push f.points p h.numbered.different new; lines_listed = still_listed f.points p f.lines h.numbered.lines_listed };
   on_grid = All-push IsOnGrid f.points p h.on_grid on;
+  positive = h.positive;
   rising = h.rising;
   region = subst IsRegion (sym same) h.region;
   bounded = subst (λ (es : List Edge). f.next + 4 * or_zero (shoelace es) ≤ 2 ^ 64 - 1) (sym same) h.bounded;
@@ -145,10 +146,11 @@ edges_glued f ns h k = glued_edges (state_of f) ns h.numbered k.listed
 pub area_glued : (f : FrontState) (ns : List ℕ) → IsFrontState f → IsGluable f ns → shoelace (edges_of f) ≡ shoelace (sides (corners_of f.points ns)) +ℤ shoelace (front_edges f.points (glued (state_of f) ns).front)
 area_glued f ns h k = glued_area (edges_of f) (sides (corners_of f.points ns)) ∙ ap (λ (es : List Edge). shoelace (sides (corners_of f.points ns)) +ℤ shoelace es) (sym (edges_glued f ns h k))
 
-pub front_glued : (f : FrontState) (ns walk : List ℕ) → IsFrontState f → IsGluable f ns → IsWalk walk (glued (state_of f) ns).front → IsFrontState (after_glue f ns walk)
-front_glued f ns walk h k w = record {
+pub front_glued : (f : FrontState) (ns walk : List ℕ) → IsFrontState f → IsGluable f ns → IsWalk walk (glued (state_of f) ns).front → AllByRecursion (λ (line : ℕ × ℕ × ℕ). 1 ≤ line.0) (glued (state_of f) ns).front → IsFrontState (after_glue f ns walk)
+front_glued f ns walk h k w one = record {
   numbered = let n = glued_numbered (state_of f) ns h.numbered k.listed in record { different = n.different; lines_listed = n.lines_listed };
   on_grid = h.on_grid;
+  positive = one;
   rising = glued_rising (state_of f) ns h.rising;
   region = subst IsRegion (sym same) (region_on (edges_of f) (corners_of f.points ns) h.region k.may);
   bounded = bound_on f.next (glued (state_of f) ns).next (shoelace (edges_of f)) (shoelace (front_edges f.points (glued (state_of f) ns).front)) (shoelace (sides (corners_of f.points ns))) (area_glued f ns h k)
@@ -247,6 +249,7 @@ pub front_opened : (points : List Point) (lines : List (ℕ × ℕ)) (walk : Lis
 front_opened points lines walk h w = record {
   numbered = record { different = h.numbered.different; lines_listed = h.numbered.lines_listed };
   on_grid = h.on_grid;
+  positive = numbered_above 0 1 lines (omega arith);
   rising = numbered_rise 1 lines;
   region = subst IsRegion (sym same) h.region;
   bounded = subst (λ (es : List Edge). (1 + length lines) + 4 * or_zero (shoelace es) ≤ 2 ^ 64 - 1) (sym same) (one (length lines) (or_zero (shoelace (map (pair_edge points) lines))) h.bounded);

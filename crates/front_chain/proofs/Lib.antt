@@ -16,3 +16,5 @@ pub mod Joins
 -- Front points, and what is true of every front.
 pub mod Ends
 pub mod Kept
+-- A triangle, so that the conditions can be met.
+pub mod Worked

@@ -217,7 +217,7 @@ leaving_less p n (suc i) (Some t ∷ made) s h = grouped (cond (nat_eq t.from p)
     grouped a b c = omega arith
 
 -- ---- numbers rise
-all_above : (m n : ℕ) (made : List (Option Side)) → m < n → AllByRecursion (λ (other : ℕ × ℕ × ℕ). m < other.0) (lines_from n made)
+pub all_above : (m n : ℕ) (made : List (Option Side)) → m < n → AllByRecursion (λ (other : ℕ × ℕ × ℕ). m < other.0) (lines_from n made)
 all_above m n [] h = tt
 all_above m n (None ∷ made) h = all_above m (n + 1) made (omega arith)
 all_above m n (Some s ∷ made) h = (h, all_above m (n + 1) made (omega arith))

@@ -5,7 +5,7 @@ use mathlib.Core.Path.{◌≡◌, refl, sym, ap, ◌∙◌, subst}
 use mathlib.Core.Bool.{Bool, true, false, cond, not, ◌||◌}
 use mathlib.Core.List.{List, [], ◌∷◌, map}
 use native.Mathlib.Omega.{arith}
-use Rattle.std.specs.Prelude.{nat_eq, nat_lt, is_some, position, slice_get, Option, Some, None}
+use Rattle.std.specs.Prelude.{nat_eq, nat_lt, is_some, position, IfSome, IsTrue, slice_get, Option, Some, None}
 use Rattle.std.specs.Cmp.{IsEquivalence, nat_eq_equiv}
 use Rattle.std.specs.Map.{keys_of, values_of, lookup}
 use Rattle.std.specs.Option.{option_map, option_map_or}
@@ -17,6 +17,7 @@ use Rattle.grid_geom.specs.declared.Bounds.{Bounds}
 use Rattle.state_law.specs.State.{AreRising, IsListed, pair_edge, point_at}
 use Rattle.wind_law.specs.Chains.{edge}
 use Rattle.front_chain.specs.declared.chain.Side.{Side}
+use Rattle.front_chain.specs.declared.front.Near.{Near}
 use Rattle.front_chain.specs.Front.{FrontState, line_at, is_near, does_meet, IsWalk}
 use Rattle.front_chain.specs.Tables.{side_at, lines_from, AreTables}
 use Rattle.front_chain.proofs.Lines.{same_side, same_self, same_sound, ends, line_numbered, no_line_zero, lines_rise}
@@ -277,3 +278,19 @@ some_place test ks i e = by (nat_lt (position_or_len test ks) (length ks)) e
     by : (b : Bool) → cond b (Some (position_or_len test ks)) None ≡ Some i → position_or_len test ks ≡ i
     by true h = cc
     by false h = absurd (cc)
+
+-- ---- what a search finds is near
+found_passes : (test : ℕ → Bool) (xs : List ℕ) (n : ℕ) → find test xs ≡ Some n → test n ≡ true
+found_passes test [] n e = absurd (cc)
+found_passes test (x ∷ xs) n e = by (test x) refl e (found_passes test xs n)
+  where
+    one : (m n : ℕ) → Some m ≡ Some n → m ≡ n
+    one m n e = cc
+
+    by : (b : Bool) → test x ≡ b → cond b (Some x) (find test xs) ≡ Some n → (find test xs ≡ Some n → test n ≡ true) → test n ≡ true
+    by true f h rest = ap test (sym (one x n h)) ∙ f
+    by false f h rest = rest h
+
+pub found_near : (test : ℕ → Bool) (xs : List ℕ) (o : Option Near) → option_map (λ (near : Near). near.line) o ≡ find test xs → IfSome o (λ near. IsTrue (test near.line))
+found_near test xs None e = tt
+found_near test xs (Some near) e = found_passes test xs near.line (sym e)

@@ -99,7 +99,8 @@ pub record IsFrontState (f : FrontState) : Type 0 where
   -- points are different and on the grid, lines join listed points
   pub numbered : IsNumbered (state_of f)
   pub on_grid : All IsOnGrid f.points
-  -- line numbers rise and are below the next one
+  -- line numbers are at least 1, rise and are below the next one
+  pub positive : AllByRecursion (λ line. 1 ≤ line.0) f.lines
   pub rising : AreRising f.lines f.next
   -- the lines are closed, none tangles with another, and round each point off them they wind 0 times or once
   pub region : IsRegion (edges_of f)

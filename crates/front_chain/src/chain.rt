@@ -1,6 +1,6 @@
 // The points and lines of a front in tables: each is found in one look, and a line joins or leaves at the same cost however long the front is.
 ghost use Rattle.std.specs.Prelude.{◌≡◌, ℕ, ◌+◌, ◌-◌, ◌<◌, ◌≤◌, nat_eq, List, [], ◌∷◌, ◌++◌, length, drop, filter, not, Some, None, IfOk, OnOk, IsTrue};
-ghost use Rattle.std.specs.List.{find, list_any};
+ghost use Rattle.std.specs.List.{AllByRecursion, find, list_any};
 ghost use Rattle.wind_law.specs.Chains.{edge};
 ghost use Rattle.state_law.specs.State.{IsListed, glue_line, next_after, point_at};
 ghost use Rattle.front_chain.specs.Front.{FrontState, IsWalk, line_at, number_between, number_above, number_of, is_near, does_meet, first_in_walk, next_in_walk, still_waiting};
@@ -289,6 +289,7 @@ impl Chain {
     pub fn use_points(&mut self, used: &[u64])
         ensures waiting { self.new.waiting ≡ still_waiting self.old.waiting used.now }
         ensures walked { IsWalk self.new.walk self.new.lines }
+        ensures positive { AllByRecursion (λ line. 1 ≤ line.0) self.new.lines }
         ensures points { self.new.points ≡ self.old.points }
         ensures lines { self.new.lines ≡ self.old.lines }
         ensures next { self.new.next ≡ self.old.next }
@@ -303,6 +304,7 @@ impl Chain {
     pub fn use_starts(&mut self)
         ensures waiting { self.new.waiting ≡ filter (λ n. not (list_any (λ line. nat_eq line.1 n) self.old.lines)) self.old.waiting }
         ensures walked { IsWalk self.new.walk self.new.lines }
+        ensures positive { AllByRecursion (λ line. 1 ≤ line.0) self.new.lines }
         ensures points { self.new.points ≡ self.old.points }
         ensures lines { self.new.lines ≡ self.old.lines }
         ensures next { self.new.next ≡ self.old.next }

@@ -1,5 +1,5 @@
 // The front of a domain as a value that can't be wrong.
-ghost use Rattle.std.specs.Prelude.{◌≡◌, ℕ, ◌+◌, ◌<◌, ◌≤◌, List, [], ◌∷◌, ◌++◌, length, None, IfOk, OnOk, IsTrue, ◌+ℤ◌};
+ghost use Rattle.std.specs.Prelude.{◌≡◌, ℕ, ◌+◌, ◌<◌, ◌≤◌, List, [], ◌∷◌, ◌++◌, length, None, IfOk, OnOk, IfSome, IsTrue, ◌+ℤ◌};
 ghost use Rattle.std.specs.Option.{option_map};
 ghost use Rattle.grid_geom.specs.declared.RatPoint.{RatPoint};
 ghost use Rattle.grid_geom.specs.Bounds.{IsOnGrid};
@@ -24,6 +24,13 @@ const MOST_SIDES: usize = 4;
 pub struct Near {
     /// The line's number.
     pub line: u64,
+}
+
+/// The line that a walk has met, if it has met one.
+fn met(line: Option<u64>) -> Option<Near>
+    ensures { option_map (λ near. near.line) result ≡ line }
+{
+    line.map(|line| Near { line })
 }
 
 /// The front of a domain: its points and its directed lines, with the unmeshed region on their left.
@@ -142,19 +149,19 @@ impl Front {
 
     /// The first line of the front's walk whose box meets `b`.
     pub fn first_near(&self, b: &Bounds) -> Option<Near>
-        ensures { option_map (λ near. near.line) result ≡ first_in_walk self.now b.now }
+        ensures first { option_map (λ near. near.line) result ≡ first_in_walk self.now b.now }
+        ensures near { IfSome result (λ near. IsTrue (is_near self.now b.now near.line)) }
     {
-        self.chain.first_near(b).map(|line| Near { line })
+        met(self.chain.first_near(b))
     }
 
     /// The first line of the front's walk after this one whose box meets `b`.
     pub fn next_near(&self, b: &Bounds, after: &Near) -> Option<Near>
         requires { IsTrue (is_near self.now b.now after.now.line) }
-        ensures { option_map (λ near. near.line) result ≡ next_in_walk self.now b.now after.now.line }
+        ensures next { option_map (λ near. near.line) result ≡ next_in_walk self.now b.now after.now.line }
+        ensures near { IfSome result (λ near. IsTrue (is_near self.now b.now near.line)) }
     {
-        self.chain
-            .next_near(b, after.line)
-            .map(|line| Near { line })
+        met(self.chain.next_near(b, after.line))
     }
 
     /// Takes memory for so many more points and elements. Whatever it answers, the points, the lines and

@@ -1,4 +1,21 @@
 //! What is the front of a domain, and how does it change when an element is glued to it?
+//!
+//! A front is a list of points and a list of directed lines between them, with the unmeshed region on
+//! the left of each line. For every front, whatever was called:
+//!
+//! 1. Points are different grid points, numbered from 1. Lines join listed points; a line that joins
+//!    takes the next line number, and numbers are never used again.
+//! 2. The lines are closed, none tangles with another, and they wind 0 times or once round each rational
+//!    point off them: they bound a region. So no line occurs twice or reversed.
+//! 3. The next line number plus four times the doubled area is below 2^64, so numbers fit for good: a
+//!    gluing adds at most four lines and takes at least 1 from the doubled area.
+//! 4. Each listed point is an end of a line, or outside the region and on no line for good, or waiting:
+//!    listed, but no corner of a glued element so far.
+//! 5. The walk has the number of each line once. Its order is the front's own choice.
+//!
+//! `open`, `reserve` alone take memory. Every look-up is one look in a table; gluing costs what the
+//! element has, however long the front is. The walks go from line to line until a tree of boxes stands
+//! behind the same two calls.
 #![tactic(auto)]
 
 mod chain;
@@ -8,3 +25,6 @@ mod opening;
 
 pub use front::{Front, Near};
 pub use std::alloc::AllocError as OutOfMemory;
+
+#[cfg(test)]
+mod tests;

@@ -1,7 +1,8 @@
-use Rattle.std.proofs.Common.{◌∙◌, ap, rules, not, nat_eq}
+use Rattle.std.proofs.Common.{◌∙◌, ap, rules, not, nat_eq, arith}
 use Rattle.std.specs.List.{list_any}
 use Rattle.std.proofs.lemmas.Fn.{filter_same}
 use Rattle.front_chain.specs.Front.{still_waiting}
+use Rattle.front_chain.proofs.Lines.{all_above}
 use Rattle.front_chain.proofs.Walks.{walk_is}
 use Rattle.front_chain.proofs.chain.Chain.use_points.Goals as goal
 
@@ -10,3 +11,6 @@ returns-clause-waiting c = filter_same _ (λ n. not (list_any (nat_eq n) c.args.
 
 pub returns-clause-walked : goal.returns-clause-walked
 returns-clause-walked c = walk_is c.self.inside.made.items c.self.inside.sides.entries c.self.invariant.0 c.self.invariant.1
+
+pub returns-clause-positive : goal.returns-clause-positive
+returns-clause-positive c = all_above 0 1 c.self.inside.made.items (omega arith)

@@ -1,8 +1,9 @@
-use Rattle.std.proofs.Common.{◌∙◌, ap, rules, not, filter, nat_eq}
+use Rattle.std.proofs.Common.{◌∙◌, ap, rules, not, filter, nat_eq, arith}
 use Rattle.std.specs.List.{list_any}
 use Rattle.std.proofs.lemmas.Fn.{filter_same}
 use Rattle.front_chain.specs.Tables.{is_positive}
 use Rattle.front_chain.proofs.Above.{positive_leaves}
+use Rattle.front_chain.proofs.Lines.{all_above}
 use Rattle.front_chain.proofs.Walks.{walk_is}
 use Rattle.front_chain.proofs.chain.Chain.use_starts.Goals as goal
 
@@ -13,3 +14,6 @@ returns-clause-waiting c = filter_same _ (λ n. not (is_positive c.self.inside.l
 
 pub returns-clause-walked : goal.returns-clause-walked
 returns-clause-walked c = walk_is c.self.inside.made.items c.self.inside.sides.entries c.self.invariant.0 c.self.invariant.1
+
+pub returns-clause-positive : goal.returns-clause-positive
+returns-clause-positive c = all_above 0 1 c.self.inside.made.items (omega arith)

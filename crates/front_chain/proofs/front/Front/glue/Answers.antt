@@ -1,7 +1,8 @@
 use mir.Val.{SFits}
 use mir.Syntax.{w128}
 use lib.IntN.{◌+ℤ◌, ◌-ℤ◌}
-use Rattle.std.proofs.Common.{◌∙◌, sym, ap, subst, length}
+use Rattle.std.specs.List.{AllByRecursion}
+use Rattle.std.proofs.Common.{◌≤◌, ◌∙◌, sym, ap, subst, length}
 use Rattle.std.proofs.lemmas.Int.{to_z-of_z}
 use Rattle.grid_geom.specs.Area.{shoelace}
 use Rattle.grid_geom.specs.Polygon.{sides}
@@ -39,11 +40,12 @@ invariant_of-self c =
     let points = c.use_points.ensures.points ∙ c.glue_sides.ensures.points in
     let waiting = c.use_points.ensures.waiting ∙ (λ i. still_waiting (c.glue_sides.ensures.waiting i) (c.as_slice-corners.ensures i)) in
     let walked = subst (IsWalk c.use_points.new.self.walk) lines c.use_points.ensures.walked in
+    let positive = subst (AllByRecursion (λ line. 1 ≤ line.0)) lines c.use_points.ensures.positive in
     let area = area_left f el c.self.inside.area c.element_area-taken.result c.self.invariant.0 may c.self.invariant.1 (c.element_area-taken.ensures ∙ ap (λ ns. shoelace (sides (corners_of f.points ns))) c.as_slice-corners.ensures) in
     let whole : SFits w128 c.self.inside.area = area.fits in
     let taken : SFits w128 c.element_area-taken.result = record { sfits = c.element_area-taken.type_inv } in
     let left : SFits w128 (c.self.inside.area -ℤ c.element_area-taken.result) = area.left_fits in (
-      front_as (after_glue f el c.use_points.new.self.walk) c.use_points.new.self (sym points) (sym lines) (sym next) (λ i. c.use_points.new.self.walk) (sym waiting) (front_glued f el c.use_points.new.self.walk c.self.invariant.0 may walked),
+      front_as (after_glue f el c.use_points.new.self.walk) c.use_points.new.self (sym points) (sym lines) (sym next) (λ i. c.use_points.new.self.walk) (sym waiting) (front_glued f el c.use_points.new.self.walk c.self.invariant.0 may walked positive),
       simp to_z-of_z (area.left ∙ sym (λ i. shoelace (front_edges (points i) (lines i)))),
     )
 

@@ -1,0 +1,74 @@
+// Values from outside, worked by hand on the triangle (0, 0), (640000, 0), (0, 640000) with its three lines.
+ghost use Rattle.std.specs.Prelude.{◌≡◌, [], ◌∷◌, IfOk};
+ghost use Rattle.state_law.specs.Worked.{worked};
+ghost use Rattle.front_chain.specs.Worked.{triangle_points};
+
+use super::*;
+use grid_geom::{Bounds, Element, Point};
+use std::alloc::Global;
+use std::test::Fail;
+
+/// The front of the triangle.
+fn triangle(alloc: Global) -> Result<Front, OutOfMemory>
+    ensures points { IfOk result (λ f. f.points ≡ triangle_points) }
+    ensures lines { IfOk result (λ f. f.lines ≡ worked.front) }
+{
+    Front::open(
+        alloc,
+        &[
+            Point { x: 0, y: 0 },
+            Point { x: 640_000, y: 0 },
+            Point { x: 0, y: 640_000 },
+        ],
+        &[(1, 2), (2, 3), (3, 1)],
+    )
+}
+
+#[test]
+fn looks_up_what_is_there(rt: HostRuntime) -> Result<(), Fail> {
+    let front = triangle(rt.alloc())?;
+    assert_eq!(rt; front.lines(), 3);
+    assert_eq!(rt; front.line(2), Some((2, 3)));
+    assert_eq!(rt; front.line(4), None);
+    assert_eq!(rt; front.line_between(3, 1), Some(3));
+    assert_eq!(rt; front.line_between(1, 3), None);
+    assert_eq!(rt; front.next_line(1), Some(2));
+    assert_eq!(rt; front.next_line(3), None);
+    assert_eq!(rt; front.number_at(Point { x: 0, y: 640_000 }), Some(3));
+    assert_eq!(rt; front.number_at(Point { x: 1, y: 1 }), None);
+    assert!(rt; front.is_front_point(1));
+    assert_eq!(rt; front.area(), 409_600_000_000);
+    Ok(())
+}
+
+#[test]
+fn the_only_element_leaves_nothing(rt: HostRuntime) -> Result<(), Fail> {
+    let mut front = triangle(rt.alloc())?;
+    front.reserve(0, 1)?;
+    front.glue(&Element::from_vec(vec![in rt.alloc(); 1, 2, 3]?));
+    assert_eq!(rt; front.lines(), 0);
+    assert_eq!(rt; front.area(), 0);
+    assert_eq!(rt; front.next_line(0), None);
+    assert!(rt; !front.is_front_point(1));
+    Ok(())
+}
+
+#[test]
+fn a_walk_meets_the_near_lines(rt: HostRuntime) -> Result<(), Fail> {
+    let front = triangle(rt.alloc())?;
+    // the box in the corner at the second point meets lines 1 and 2 alone
+    let corner = Bounds {
+        lo: Point { x: 600_000, y: -1 },
+        hi: Point { x: 700_000, y: 1 },
+    };
+    let mut met = 0;
+    if let Some(first) = front.first_near(&corner) {
+        met += first.line;
+        if let Some(second) = front.next_near(&corner, &first) {
+            met += 10 * second.line;
+            assert!(rt; front.next_near(&corner, &second).is_none());
+        }
+    }
+    assert!(rt; met == 12 || met == 21);
+    Ok(())
+}
