@@ -134,6 +134,13 @@ impl Chain {
         self.places.len() as u64
     }
 
+    /// The number that the next line to join takes.
+    pub fn next_number(&self) -> u64
+        ensures { result ≡ self.now.next }
+    {
+        1 + self.made.len() as u64
+    }
+
     /// The ends of the line with this number, if it is there.
     pub fn line(&self, n: u64) -> Option<(u64, u64)>
         ensures { result ≡ line_at self.now.lines n }

@@ -103,6 +103,13 @@ impl Front {
         self.chain.lines()
     }
 
+    /// The number that the next line to join takes.
+    pub fn next_number(&self) -> u64
+        ensures { result ≡ self.now.next }
+    {
+        self.chain.next_number()
+    }
+
     /// The ends of the line with this number.
     pub fn line(&self, n: u64) -> Option<(u64, u64)>
         ensures { result ≡ line_at self.now.lines n }
