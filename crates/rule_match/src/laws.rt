@@ -1,6 +1,6 @@
 //! Laws of candidates, each the contract of a function that does nothing.
 
-ghost use Rattle.std.specs.Prelude.{ℕ, List, ◌++◌, ◌≡◌, true, length};
+ghost use Rattle.std.specs.Prelude.{ℕ, List, [], ◌++◌, ◌≡◌, true, length};
 ghost use Rattle.rule_reader.specs.declared.rule.Rule.{Rule};
 ghost use Rattle.size_field.specs.Size.{SizeField};
 ghost use Rattle.state_law.specs.State.{State, front_edges};
@@ -14,6 +14,7 @@ ghost use Rattle.rule_match.specs.Candidate.{Attempt, IsCandidate};
 ghost use Rattle.rule_match.specs.Least.{HasNone, IsLeast};
 ghost use Rattle.rule_match.specs.Refused.{IsRefusedBy, IsExcused};
 ghost use Rattle.rule_match.specs.declared.near.NearPoint.{NearPoint as NearOne};
+ghost use Rattle.rule_match.specs.Trying.{Setting, ties};
 ghost use Rattle.rule_match.specs.Around.{IsAround, setting_of, IsTried};
 ghost use Rattle.rule_match.specs.Fitting.{Tie, fits_so_far, in_order, IsOrder, renumbered, DoesFit};
 
@@ -59,8 +60,10 @@ pub fn law_order()
 {}
 
 /// A candidate's points are met by the search: where the near points and lines are those of the front,
-/// near points stand for its points and meet each test that looks at the points alone.
+/// near points stand for its points and meet each test that looks at the points alone. With no point
+/// mapped yet no test can fail.
 pub fn law_tried()
-    ensures { (st : State) (t : Attempt) (near : List NearOne) (lines : List (ℕ × ℕ)) →
+    ensures starts { (s : Setting) → fits_so_far (ties s) [] ≡ true }
+    ensures met { (st : State) (t : Attempt) (near : List NearOne) (lines : List (ℕ × ℕ)) →
         IsAround st t.frame near lines → IsCandidate st t → IsTried (setting_of t near lines) t.points }
 {}
