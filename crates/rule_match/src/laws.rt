@@ -20,14 +20,16 @@ ghost use Rattle.rule_match.specs.Fitting.{Tie, fits_so_far, in_order, IsOrder, 
 
 /// A line has at most one least candidate at a class: its rule and its assignment are fixed.
 pub fn law_one()
-    ensures { (sizes : SizeField) (st : State) (rules : List Rule) (line class : ℕ) (t u : Attempt) →
+    ensures { (sizes : SizeField) (st : State) (rules : List Rule) (line class : ℕ)
+        (t u : Attempt) →
         IsLeast sizes st rules line class t → IsLeast sizes st rules line class u →
         (t.rule ≡ u.rule) × (t.points ≡ u.points) }
 {}
 
 /// A pair of line and class that is refused has no candidate.
 pub fn law_none()
-    ensures { (sizes : SizeField) (st : State) (rules : List Rule) (line class : ℕ) (notes : List Noted) →
+    ensures { (sizes : SizeField) (st : State) (rules : List Rule) (line class : ℕ)
+        (notes : List Noted) →
         IsFront (front_edges st.points st.front) → IsRefusedBy sizes st rules line class notes →
         HasNone sizes st rules line class }
 {}
@@ -65,5 +67,6 @@ pub fn law_order()
 pub fn law_tried()
     ensures starts { (s : Setting) → fits_so_far (ties s) [] ≡ true }
     ensures met { (st : State) (t : Attempt) (near : List NearOne) (lines : List (ℕ × ℕ)) →
-        IsAround st t.frame near lines → IsCandidate st t → IsTried (setting_of t near lines) t.points }
+        IsAround st t.frame near lines → IsCandidate st t →
+        IsTried (setting_of t near lines) t.points }
 {}

@@ -23,6 +23,8 @@ mod near;
 mod progress;
 mod rule_trial;
 mod squares;
+#[cfg(test)]
+mod tests;
 mod tolerance;
 mod trying;
 mod walk;

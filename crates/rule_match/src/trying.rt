@@ -329,7 +329,8 @@ impl<'a> Trying<'a> {
     fn region(&self, alloc: Global, position: usize) -> Result<Vec<usize>, AllocError>
         requires { position < length self.now.rule.points }
         ensures { IfOk result (λ v. (point : MappedPoint) (n : ℕ) →
-            point_test self.now position (slice_index_or self.now.rule.points position point) n ≡ true →
+            point_test self.now position (slice_index_or self.now.rule.points position point) n
+            ≡ true →
             Contains v.items n) }
     {
         let point = &self.rule.points.as_slice()[position];

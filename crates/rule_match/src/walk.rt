@@ -85,7 +85,8 @@ fn settle<T: Trial>(
     ensures advance { OnOk result
         (IsAdvance (T.holds trial.now) (T.rank trial.now) progress.old progress.new) }
     ensures settled { OnOk result
-        (IsSettled (T.holds trial.now) (T.reasons trial.now) (T.rank trial.now) progress.new chosen.now) }
+        (IsSettled (T.holds trial.now) (T.reasons trial.now) (T.rank trial.now)
+        progress.new chosen.now) }
 {
     let Some(found) = trial.find(alloc, chosen) else {
         return Ok(());
@@ -148,7 +149,8 @@ fn follow<T: Trial>(
     ensures advance { OnOk result
         (IsAdvance (T.holds trial.now) (T.rank trial.now) progress.old progress.new) }
     ensures settled { OnOk result
-        ((rest : List ℕ) → AreOf regions.now rest → T.fits trial.now (chosen.old.items ++ p ∷ rest) →
+        ((rest : List ℕ) → AreOf regions.now rest →
+        T.fits trial.now (chosen.old.items ++ p ∷ rest) →
         IsSettled (T.holds trial.now) (T.reasons trial.now) (T.rank trial.now)
         progress.new (chosen.old.items ++ p ∷ rest)) }
 {
