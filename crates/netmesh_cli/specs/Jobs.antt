@@ -20,7 +20,7 @@ use Rattle.netmesh_cli.specs.declared.command.MeshCall.{MeshCall}
 use Rattle.netmesh_cli.specs.declared.asked.Asked.{Asked}
 use Rattle.netmesh_cli.specs.declared.asked.Asked.TheVariants.{Mesh, Geom}
 use Rattle.netmesh_cli.specs.Commands.{Task, MeshTask, MeshOf, GeomOf}
-use Rattle.netmesh_cli.specs.Words.{no_options}
+use Rattle.netmesh_cli.specs.Words.{with_grading}
 use Rattle.netmesh_cli.specs.Accepted.{IsGeometryText, AreRules}
 use Rattle.netmesh_cli.specs.Causes.{HoldsWithin}
 use Rattle.netmesh_cli.specs.Taking.{Taken, geometry_at, ruleless_file_at}
@@ -53,9 +53,9 @@ abbrev pub job_of : Asked → Job
 job_of (Mesh call) = MeshJob (task_of_mesh call)
 job_of (Geom geometry) = GeomJob geometry.now
 
--- no option of `mesh` is built so far
+-- of the options of `mesh` the grading alone is built so far
 abbrev pub IsBuilt : Job → Type 0
-IsBuilt (MeshJob task) = task.options ≡ no_options
+IsBuilt (MeshJob task) = task.options ≡ with_grading task.options.grading
 IsBuilt (GeomJob geometry) = Unit {0}
 
 -- ---- what is taken and put

@@ -4,7 +4,7 @@
 -- run_of            its whole run. So far no rule is applied, and the rule files that are accepted hold none
 -- log_of ..         the bytes of the two files that are put, and the line that is written
 -- IsCovered         the fronts of the run wind as the boundaries of the domains do
-use Rattle.std.specs.Prelude.{◌≡◌, ℕ, pos, List, [], Option, Some, None, All, AllPairs}
+use Rattle.std.specs.Prelude.{◌≡◌, ℕ, min, pos, List, [], Option, Some, None, All, AllPairs}
 use Rattle.grid_geom.specs.declared.RatPoint.{RatPoint}
 use Rattle.grid_geom.specs.declared.TheConstants.{LONGEST}
 use Rattle.grid_geom.specs.Plane.{IsRational}
@@ -28,7 +28,7 @@ use Rattle.run_log.specs.Summary.{summary_line}
 use Rattle.netmesh_cli.specs.declared.command.MeshOptions.{MeshOptions}
 use Rattle.netmesh_cli.specs.declared.outcome.Outcome.{Outcome}
 use Rattle.netmesh_cli.specs.declared.outcome.Outcome.TheVariants.{Done, Stuck, Stopped}
-use Rattle.netmesh_cli.specs.Words.{no_options}
+use Rattle.netmesh_cli.specs.Words.{with_grading}
 
 -- what `mesh` accepts: the geometry, the rules, and the options that it is given
 pub record MeshInput : Type 0 where
@@ -36,9 +36,9 @@ pub record MeshInput : Type 0 where
   pub rules : List Rule
   pub options : MeshOptions
 
--- a geometry alone: no rule, and no option
-abbrev pub plain_input : PlanarMap → MeshInput
-plain_input g = record { geometry = g; rules = []; options = no_options }
+-- a geometry and a grading, if it is given: no rule, and no other option
+abbrev pub graded_input : PlanarMap → Option ℕ → MeshInput
+graded_input g grading = record { geometry = g; rules = []; options = with_grading grading }
 
 -- the value that is given, or else this one
 abbrev pub given_or : Option ℕ → ℕ → ℕ
@@ -46,11 +46,12 @@ given_or None usual = usual
 given_or (Some value) usual = value
 
 -- the options of the run: where they aren't given, the greatest size there is, a grading of 0.3,
--- classes 1 to 10, and no limit on applications. So far no greatest size can be given
+-- classes 1 to 10, and no limit on applications. So far no greatest size can be given. A grading is at most
+-- 10,000 thousandths, as the words of a call say too
 abbrev pub run_options : MeshOptions → Options
 run_options options = record {
   greatest = LONGEST;
-  grading = given_or options.grading 300;
+  grading = min (given_or options.grading 300) 10000;
   last = given_or options.class 10;
   limit = options.steps;
 }

@@ -2,7 +2,7 @@
 
 ghost use Rattle.std.specs.Prelude.{◌≡◌, List, map, IfOk, IfErr, IsTrue, ◌↔◌, string_bytes};
 ghost use Rattle.netmesh_cli.specs.Commands.{IsCommand};
-ghost use Rattle.netmesh_cli.specs.Words.{no_options, WordsRefused};
+ghost use Rattle.netmesh_cli.specs.Words.{with_grading, WordsRefused};
 ghost use Rattle.netmesh_cli.specs.Jobs.{job_of, task_of_job, IsBuilt};
 
 use super::Refusal;
@@ -15,20 +15,17 @@ const WORDS_PART: u32 = 1;
 /// What is asked for.
 #[derive(Clone, Copy)]
 pub enum Asked<'a> {
-    /// A mesh of a geometry, without options.
+    /// A mesh of a geometry, with no option but the grading.
     Mesh(MeshCall<'a>),
     /// A geometry, printed.
     Geom(&'a str),
 }
 
-/// Whether no option is given.
-fn has_none(options: &MeshOptions) -> bool
-    ensures { IsTrue result ↔ (options.now ≡ no_options) }
+/// Whether no option is given but the grading.
+fn has_no_other(options: &MeshOptions) -> bool
+    ensures { IsTrue result ↔ (options.now ≡ with_grading options.now.grading) }
 {
-    options.maxh.is_none()
-        && options.grading.is_none()
-        && options.class.is_none()
-        && options.steps.is_none()
+    options.maxh.is_none() && options.class.is_none() && options.steps.is_none()
 }
 
 /// What the words of a call ask for, or why they are refused.
@@ -40,7 +37,7 @@ pub fn read_asked<'a>(alloc: Global, words: &'a [String]) -> Result<Asked<'a>, R
 {
     match read_words(alloc, words)? {
         Ok(Command::Mesh(files)) => {
-            if has_none(&files.options) {
+            if has_no_other(&files.options) {
                 Ok(Asked::Mesh(files))
             } else {
                 Err(Refusal::NotYet { part: WORDS_PART })

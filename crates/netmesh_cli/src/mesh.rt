@@ -2,7 +2,7 @@
 
 ghost use Rattle.std.specs.Prelude.{◌≡◌, ◌≤◌, ◌∷◌, [], map, IfOk, IfErr};
 ghost use Rattle.folder_io.specs.Causes.{Told};
-ghost use Rattle.netmesh_cli.specs.Words.{no_options};
+ghost use Rattle.netmesh_cli.specs.Words.{with_grading};
 ghost use Rattle.netmesh_cli.specs.Run.{outcome_of};
 ghost use Rattle.netmesh_cli.specs.Jobs.{IsMeshed, IsRunOutcome, MeshJob, made_of, put_of};
 ghost use Rattle.netmesh_cli.specs.Jobs.{names_of_puts, puts_of, task_of_mesh};
@@ -59,13 +59,14 @@ fn made_of_texts<'a>(
     })
 }
 
-/// What `mesh` makes of the geometry and the rules that it takes. So far it is given no option.
+/// What `mesh` makes of the geometry and the rules that it takes. So far it is given no option but
+/// the grading.
 pub fn make_mesh<'a, F: Folder>(
     alloc: Global,
     call: &MeshCall<'a>,
     folder: &mut F,
 ) -> Result<Made<'a>, Refusal>
-    requires { call.now.options ≡ no_options }
+    requires { call.now.options ≡ with_grading call.now.options.grading }
     ensures held { (F.state folder.new).held ≡ (F.state folder.old).held }
     ensures made { IfOk result (λ made. Told (F.state folder.old).held
         (λ files. IsMeshed (task_of_mesh call.now) files (made_of made))) }
@@ -78,7 +79,7 @@ pub fn make_mesh<'a, F: Folder>(
 {
     let read = take_geometry(alloc, folder, call.geometry)?;
     take_rules(alloc, folder, call.rules)?;
-    let texts = run_texts(alloc, &read.geometry)?;
+    let texts = run_texts(alloc, &read.geometry, call.options.grading)?;
     let made = made_of_texts(alloc, call, texts)?;
     Ok(made)
 }
