@@ -1,5 +1,5 @@
 -- What stands under the names of a folder.
-use Rattle.std.specs.Prelude.{◌≡◌, ◌≢◌, ℕ, List, map, length, nat_le, nat_eq, not, ◌⊎◌, None, Some, Option, Ok, Err, Result, MatchResult, String, string_bytes, Vec, if◌then◌else◌}
+use Rattle.std.specs.Prelude.{◌≡◌, ◌≢◌, ℕ, ◌<◌, List, MatchOption, map, length, nat_le, nat_eq, not, ◌⊎◌, None, Some, Option, Ok, Err, Result, MatchResult, String, string_bytes, Vec, if◌then◌else◌}
 use Rattle.std.specs.List.{zip, filter}
 use Rattle.std.specs.Ordering.{nat_cmp}
 use Rattle.std.specs.Cmp.Lexicographic.{slice_cmp, pointwise}
@@ -15,6 +15,18 @@ Files = finite.FinMap (slice_cmp nat_cmp) (List ℕ)
 -- the bytes held under a name, if it is there
 abbrev pub held_at : Files → List ℕ → Option (List ℕ)
 held_at files name = finite.get files name
+
+-- these bytes are held under the name
+abbrev pub Holds : Files → List ℕ → List ℕ → Type 0
+Holds files name bytes = held_at files name ≡ Some bytes
+
+-- nothing is held under the name
+abbrev pub IsMissing : List ℕ → Files → Type 0
+IsMissing name files = held_at files name ≡ None
+
+-- more bytes than the limit are held under the name
+abbrev pub IsLonger : ℕ → List ℕ → Files → Type 0
+IsLonger limit name files = MatchOption (held_at files name) ⊥ (λ bytes. limit < length bytes)
 
 -- every name but this one holds what it held
 abbrev pub SameBut : List ℕ → Files → Files → Type 0

@@ -56,11 +56,7 @@ impl<R: Files + Drop> FolderDisk<R> {
 }
 
 impl<R: Files + Drop> Folder for FolderDisk<R> {
-    ghost held = { λ _. None };
-
-    ghost faults = { λ a. a.faults };
-
-    ghost last = { λ a. a.last };
+    ghost state = { λ a. record { held = None; faults = a.faults; last = a.last } };
 
     /// Reads at most one byte more than the limit. Missing is the system's answer that there is no such
     /// file.
@@ -97,7 +93,8 @@ impl<R: Files + Drop> Folder for FolderDisk<R> {
 /// What the source has left, but no more than the first `limit + 1` bytes of it: enough to see whether
 /// it passes the limit.
 fn read_within<S: Read + Drop>(source: S, alloc: Global, limit: u64) -> io::Result<Vec<u8>>
-    ensures { IfOk result (λ v. Told (S.remaining source) (λ left. v.items ≡ take (min (limit + 1) (2 ^ 64 - 1)) left)) }
+    ensures { IfOk result (λ v. Told (S.remaining source)
+        (λ left. v.items ≡ take (min (limit + 1) (2 ^ 64 - 1)) left)) }
 {
     let mut bytes = Vec::new(alloc);
     source

@@ -52,7 +52,11 @@ impl FolderMem {
         fail: &[u64],
     ) -> Result<Self, AllocError>
         requires { length names.now ≡ length files.now }
-        ensures { IfOk result (λ folder. folder ≡ record { files = files_of names.now files.now; plan = new_plan fail.now; last = [] }) }
+        ensures { IfOk result (λ folder. folder ≡ record {
+          files = files_of names.now files.now;
+          plan = new_plan fail.now;
+          last = [];
+        }) }
     {
         Ok(FolderMem {
             table: Table::holding(alloc, names, files)?,
@@ -85,7 +89,11 @@ impl FolderMem {
     /// Counts a call that was to fail, at this name.
     fn fail(&mut self, alloc: Global, name: &str) -> Result<(), AllocError>
         requires { fails_next self.old.plan ≡ true }
-        ensures ok { OnOk result (self.new ≡ record { files = self.old.files; plan = after_call self.old.plan; last = name.now }) }
+        ensures ok { OnOk result (self.new ≡ record {
+          files = self.old.files;
+          plan = after_call self.old.plan;
+          last = name.now;
+        }) }
         ensures rises { self.old.plan.faults ≤ self.new.plan.faults }
         ensures err { OnErr result (self.new ≡ self.old) }
     {
@@ -97,24 +105,24 @@ impl FolderMem {
 }
 
 impl Folder for FolderMem {
-    ghost held = { λ a. Some a.files };
-
-    ghost faults = { λ a. a.plan.faults };
-
-    ghost last = { λ a. a.last };
+    ghost state = { λ a. record { held = Some a.files; faults = a.plan.faults; last = a.last } };
 
     fn take(&mut self, alloc: Global, name: &str, limit: u64) -> Result<Vec<u8>, TakeFault>
         // What this folder answers and leaves.
-        ensures exact { Gives result (if fails_next self.old.plan then Err TakeFault.Failed else take_answer (held_at self.old.files name.now) limit) }
+        ensures exact { Gives result (if fails_next self.old.plan
+            then Err TakeFault.Failed
+            else take_answer (held_at self.old.files name.now) limit) }
         ensures files { self.new.files ≡ self.old.files }
         ensures counted { ¬ IsErrOf result TakeFault.Memory → self.new.plan ≡ after_call self.old.plan }
         ensures memory { IsErrOf result TakeFault.Memory → self.new ≡ self.old }
         ensures unplanned { self.old.plan.fail ≡ [] → ¬ IsErrOf result TakeFault.Failed }
 
         // What every folder promises.
-        ensures failed { IsErrOf result TakeFault.Failed → Rose self.old.plan.faults self.new.plan.faults × (self.new.last ≡ name.now) }
+        ensures failed { IsErrOf result TakeFault.Failed
+            → Rose self.old.plan.faults self.new.plan.faults × (self.new.last ≡ name.now) }
         ensures rises { self.old.plan.faults ≤ self.new.plan.faults }
-        ensures quiet { ¬ IsErrOf result TakeFault.Failed → (self.new.plan.faults ≡ self.old.plan.faults) × (self.new.last ≡ self.old.last) }
+        ensures quiet { ¬ IsErrOf result TakeFault.Failed
+            → (self.new.plan.faults ≡ self.old.plan.faults) × (self.new.last ≡ self.old.last) }
     {
         if self.plan.fails_next() {
             self.fail(alloc, name)?;
@@ -131,8 +139,10 @@ impl Folder for FolderMem {
     #[tactic(auto, using(crate::proofs::Tables::same_but_removed))]
     fn put(&mut self, alloc: Global, name: &str, bytes: &[u8]) -> Result<(), PutFault>
         // What this folder answers and leaves.
-        ensures exact { IsErrOf result PutFault.Memory ⊎ (result ≡ (if fails_next self.old.plan then Err PutFault.Failed else Ok tt)) }
-        ensures absent { IsErrOf result PutFault.Failed → self.new.files ≡ finite.remove self.old.files name.now }
+        ensures exact { IsErrOf result PutFault.Memory
+            ⊎ (result ≡ (if fails_next self.old.plan then Err PutFault.Failed else Ok tt)) }
+        ensures absent { IsErrOf result PutFault.Failed
+            → self.new.files ≡ finite.remove self.old.files name.now }
         ensures counted { ¬ IsErrOf result PutFault.Memory → self.new.plan ≡ after_call self.old.plan }
         ensures memory { IsErrOf result PutFault.Memory → self.new ≡ self.old }
         ensures unplanned { self.old.plan.fail ≡ [] → ¬ IsErrOf result PutFault.Failed }
@@ -140,9 +150,11 @@ impl Folder for FolderMem {
         // What every folder promises.
         ensures put { OnOk result (self.new.files ≡ finite.insert self.old.files name.now bytes.now) }
         ensures others { OnErr result (SameBut name.now self.old.files self.new.files) }
-        ensures failed { IsErrOf result PutFault.Failed → Rose self.old.plan.faults self.new.plan.faults × (self.new.last ≡ name.now) }
+        ensures failed { IsErrOf result PutFault.Failed
+            → Rose self.old.plan.faults self.new.plan.faults × (self.new.last ≡ name.now) }
         ensures rises { self.old.plan.faults ≤ self.new.plan.faults }
-        ensures quiet { ¬ IsErrOf result PutFault.Failed → (self.new.plan.faults ≡ self.old.plan.faults) × (self.new.last ≡ self.old.last) }
+        ensures quiet { ¬ IsErrOf result PutFault.Failed
+            → (self.new.plan.faults ≡ self.old.plan.faults) × (self.new.last ≡ self.old.last) }
     {
         if self.plan.fails_next() {
             self.fail(alloc, name)?;
@@ -204,13 +216,12 @@ impl SinkMem {
 }
 
 impl Sink for SinkMem {
-    ghost written = { λ a. Some a.written };
-
-    ghost faults = { λ a. a.plan.faults };
+    ghost state = { λ a. record { written = Some a.written; faults = a.plan.faults } };
 
     fn write(&mut self, bytes: &[u8]) -> Result<(), SinkFault>
         // What this sink answers and leaves.
-        ensures exact { IsErrOf result SinkFault.Memory ⊎ (result ≡ (if fails_next self.old.plan then Err SinkFault.Failed else Ok tt)) }
+        ensures exact { IsErrOf result SinkFault.Memory
+            ⊎ (result ≡ (if fails_next self.old.plan then Err SinkFault.Failed else Ok tt)) }
         ensures refused { OnErr result (self.new.written ≡ self.old.written) }
         ensures counted { ¬ IsErrOf result SinkFault.Memory → self.new.plan ≡ after_call self.old.plan }
         ensures memory { IsErrOf result SinkFault.Memory → self.new ≡ self.old }

@@ -40,9 +40,7 @@ impl<R: Print + Drop> SinkStd<R> {
 }
 
 impl<R: Print + Drop> Sink for SinkStd<R> {
-    ghost written = { λ _. None };
-
-    ghost faults = { λ a. a };
+    ghost state = { λ a. record { written = None; faults = a } };
 
     fn write(&mut self, bytes: &[u8]) -> Result<(), SinkFault> {
         match io::writer(&self.rt).write_all(bytes) {

@@ -2,7 +2,7 @@
 ghost use Rattle.std.specs.Prelude.{◌≡◌, ◌<◌, ◌≤◌, ◌++◌, [], length, Some, None, MatchOption, IfOk, OnOk, OnErr, IsErrOf, IsOkUnless};
 ghost use Rattle.std.specs.Option.{option_copied};
 ghost use Rattle.std.specs.FinMap as finite;
-ghost use Rattle.folder_io.specs.Names.{held_at, files_of, take_answer, Gives};
+ghost use Rattle.folder_io.specs.Names.{held_at, IsLonger, files_of, take_answer, Gives};
 
 use crate::faults::{PutFault, SinkFault, TakeFault};
 use crate::folder::Folder;
@@ -55,11 +55,7 @@ impl FolderSure {
 }
 
 impl Folder for FolderSure {
-    ghost held = { λ a. Some a };
-
-    ghost faults = { λ _. 0 };
-
-    ghost last = { λ _. [] };
+    ghost state = { λ a. record { held = Some a; faults = 0; last = [] } };
 
     fn take(&mut self, alloc: Global, name: &str, limit: u64) -> Result<Vec<u8>, TakeFault>
         ensures exact { Gives result (take_answer (held_at self.old name.now) limit) }
@@ -68,7 +64,7 @@ impl Folder for FolderSure {
         ensures held { self.new ≡ self.old }
         ensures short { IfOk result (λ v. length v.items ≤ limit) }
         ensures bytes { IfOk result (λ v. held_at self.old name.now ≡ Some v.items) }
-        ensures too_long { IsErrOf result TakeFault.TooLong → MatchOption (held_at self.old name.now) ⊥ (λ bytes. limit < length bytes) }
+        ensures too_long { IsErrOf result TakeFault.TooLong → IsLonger limit name.now self.old }
         ensures missing { IsErrOf result TakeFault.Missing → held_at self.old name.now ≡ None }
     {
         self.table.copied(alloc, name, limit)
@@ -118,9 +114,7 @@ impl SinkSure {
 }
 
 impl Sink for SinkSure {
-    ghost written = { λ a. Some a };
-
-    ghost faults = { λ _. 0 };
+    ghost state = { λ a. record { written = Some a; faults = 0 } };
 
     fn write(&mut self, bytes: &[u8]) -> Result<(), SinkFault>
         ensures exact { IsOkUnless result SinkFault.Memory }

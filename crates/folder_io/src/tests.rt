@@ -97,9 +97,35 @@ fn the_working_folder_gives_back_what_was_put(rt: HostRuntime) -> Result<(), Fai
 }
 
 #[test]
-fn standard_output_takes_a_text(rt: HostRuntime) -> Result<(), Fail> {
+fn the_working_folder_keeps_a_long_file_whole(rt: HostRuntime) -> Result<(), Fail> {
+    let alloc = rt.alloc();
+    let mut folder = FolderDisk::new(rt.clone()?, alloc);
+    let long = vec![in alloc; b'x'; 100_000]?;
+    assert_eq!(rt; folder.put(alloc, "folder_io_long", &long), Ok(()));
+    let taken = folder.take(alloc, "folder_io_long", 100_000);
+    let short = folder.take(alloc, "folder_io_long", 99_999);
+    fs::remove_file(&rt, "folder_io_long")?;
+    assert_eq!(rt; taken?.as_slice(), long.as_slice());
+    assert_eq!(rt; short.err(), Some(TakeFault::TooLong));
+    Ok(())
+}
+
+#[test]
+fn a_folder_taken_as_a_file_fails_and_is_counted(rt: HostRuntime) -> Result<(), Fail> {
+    let alloc = rt.alloc();
+    let mut folder = FolderDisk::new(rt.clone()?, alloc);
+    assert_eq!(rt; folder.take(alloc, ".", 9).err(), Some(TakeFault::Failed));
+    assert_eq!(rt; folder.faults(), 1);
+    assert_eq!(rt; folder.last(), ".");
+    Ok(())
+}
+
+#[test]
+fn standard_output_takes_a_text_and_100_000_bytes(rt: HostRuntime) -> Result<(), Fail> {
     let mut out = SinkStd::new(rt.clone()?);
+    let long = vec![in rt.alloc(); b' '; 100_000]?;
     assert_eq!(rt; out.write(b"a text for standard output\n"), Ok(()));
+    assert_eq!(rt; out.write(&long), Ok(()));
     assert_eq!(rt; out.faults(), 0);
     Ok(())
 }

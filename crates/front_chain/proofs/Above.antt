@@ -13,9 +13,7 @@ use Rattle.grid_geom.specs.declared.Point.{Point}
 use Rattle.front_chain.specs.declared.chain.Side.{Side}
 use Rattle.front_chain.specs.Front.{number_above}
 use Rattle.front_chain.specs.Tables.{side_at, lines_from, leaving_of, is_positive, AreTables}
-
-no_side : {A : Type 0} (s : Side) → None ≡ Some s → A
-no_side s e = absurd (cc)
+use Rattle.front_chain.proofs.Lines.{no_side, past_end}
 
 not_above : (after n : ℕ) → n ≤ after → nat_lt after n ≡ false
 not_above after n h = grind arith
@@ -87,11 +85,6 @@ first_above n after (suc i) (Some t ∷ made) s l e h = ap (λ b. option_map (λ
 abbrev pub AreGone : List (Option Side) → ℕ → ℕ → Type 0
 AreGone made after i = (j : ℕ) → after ≤ j → j < i → side_at made j ≡ None
 
-past_end : (made : List (Option Side)) (i : ℕ) → length made ≤ i → side_at made i ≡ None
-past_end [] i h = refl
-past_end (m ∷ made) zero h = absurd (omega (arith, h))
-past_end (m ∷ made) (suc i) h = past_end made i (omega (arith, h))
-
 pub gone_above : (made : List (Option Side)) (after i : ℕ) → length made ≤ i → AreGone made after i → number_above (lines_from 1 made) after ≡ None
 gone_above made after i h g = none_above 1 after made (λ j l. elim (compared j i) [ inl k ↦ g j (omega (arith, l)) k | inr k ↦ past_end made j (omega (arith, h, k)) ])
   where
@@ -103,13 +96,6 @@ found_above made after i s l e g = first_above 1 after i made s (omega arith) e 
   where
     turned : (i : ℕ) → 1 + i ≡ i + 1
     turned i = omega arith
-
--- one place more
-pub gone_more : (made : List (Option Side)) (after i : ℕ) → AreGone made after i → side_at made i ≡ None → AreGone made after (i + 1)
-gone_more made after i g e j l k = elim (compared j i k) [ inl m ↦ g j l m | inr m ↦ ap (side_at made) m ∙ e ]
-  where
-    compared : (j i : ℕ) → j < i + 1 → (j < i) ⊎ (j ≡ i)
-    compared j i k = grind arith
 
 -- ---- whether a line leaves a point
 pub leaving_any : (lines : List (ℕ × ℕ × ℕ)) (n : ℕ) → nat_lt 0 (leaving_of lines n) ≡ list_any (λ line. nat_eq line.1 n) lines

@@ -20,9 +20,8 @@ use Rattle.state_law.proofs.Numbers.{side_edges}
 use Rattle.state_law.proofs.SidesFree.{sides_untangled}
 use Rattle.front_chain.specs.Front.{FrontState, number_between, edges_of, IsGluable}
 use Rattle.front_chain.specs.Gluable.{AreApart, CanJoin}
-
-eq_sound : (m n : ℕ) → nat_eq m n ≡ true → m ≡ n
-eq_sound m n h = grind arith
+use Rattle.front_chain.proofs.Lines.{eq_sound}
+use Rattle.front_chain.proofs.Sides.{not_first}
 
 -- the line of the ends, or not
 joins_same : (a b c d : ℕ) → (nat_eq a c && nat_eq b d) ≡ true → (a ≡ c) × (b ≡ d)
@@ -32,13 +31,6 @@ joins_same a b c d e = by (nat_eq a c) (nat_eq b d) refl refl e
     by true true f g h = (eq_sound a c f, eq_sound b d g)
     by true false f g h = absurd (cc)
     by false w f g h = absurd (cc)
-
-not_first : (line : ℕ × ℕ × ℕ) (lines : List (ℕ × ℕ × ℕ)) (a b : ℕ) → number_between (line ∷ lines) a b ≡ None → ((nat_eq line.1 a && nat_eq line.2 b) ≡ false) × (number_between lines a b ≡ None)
-not_first line lines a b e = by (nat_eq line.1 a && nat_eq line.2 b) refl e
-  where
-    by : (c : Bool) → (nat_eq line.1 a && nat_eq line.2 b) ≡ c → option_map (λ (line : ℕ × ℕ × ℕ). line.0) (cond c (Some line) (find (λ line. nat_eq line.1 a && nat_eq line.2 b) lines)) ≡ None → ((nat_eq line.1 a && nat_eq line.2 b) ≡ false) × (number_between lines a b ≡ None)
-    by true f h = absurd (cc)
-    by false f h = (f, h)
 
 none_more : (line : ℕ × ℕ × ℕ) (lines : List (ℕ × ℕ × ℕ)) (a b : ℕ) → (nat_eq line.1 a && nat_eq line.2 b) ≡ false → number_between lines a b ≡ None → number_between (line ∷ lines) a b ≡ None
 none_more line lines a b f e = ap (λ c. option_map (λ (line : ℕ × ℕ × ℕ). line.0) (cond c (Some line) (find (λ line. nat_eq line.1 a && nat_eq line.2 b) lines))) f ∙ e

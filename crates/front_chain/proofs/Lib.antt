@@ -1,20 +1,18 @@
--- The tables: points by their places, lines by their numbers.
+-- The front's proofs, by theme, in the order in which they stand on each other. Each file says at its head what it proves.
+--
+-- The tables: points by their places, lines by their numbers, that they go on agreeing.
 pub mod Places
 pub mod Lines
--- That the tables go on agreeing.
 pub mod Tabled
--- The least line above a number; whether a line leaves a point.
+-- What is asked of them: the least line above a number, whether a line leaves a point, the walk, front points.
 pub mod Above
--- The walk.
 pub mod Walks
--- Gluing one side.
-pub mod Sides
--- The opening.
-pub mod Openings
--- Gluing an element.
-pub mod Joins
--- Front points, and what is true of every front.
 pub mod Ends
+-- Gluing: one side, the sides of an element one after another.
+pub mod Sides
+pub mod Joins
+-- The opening, and what is true of every front.
+pub mod Openings
 pub mod Kept
 -- A triangle, so that the conditions can be met.
 pub mod Worked

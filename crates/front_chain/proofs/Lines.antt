@@ -2,13 +2,13 @@
 use Prim.Native.Nat.{ℕ, zero, suc, ◌+◌, ◌-◌, ◌≤◌, ◌<◌}
 use lib.ListN.{length, set}
 use mathlib.Core.Path.{◌≡◌, refl, sym, ap, ◌∙◌, subst}
-use mathlib.Core.Bool.{Bool, true, false, cond, ◌&&◌, ◌||◌}
+use mathlib.Core.Bool.{Bool, true, false, cond, ◌&&◌}
 use mathlib.Core.List.{List, [], ◌∷◌, ◌++◌}
 use native.Mathlib.Omega.{arith}
 use Rattle.std.specs.Prelude.{nat_eq, Option, Some, None}
 use Rattle.std.specs.Option.{option_map}
-use Rattle.std.specs.List.{AllByRecursion, find, list_any}
-use Rattle.state_law.specs.State.{does_join, glue_line, AreRising}
+use Rattle.std.specs.List.{AllByRecursion, find}
+use Rattle.state_law.specs.State.{glue_line, AreRising}
 use Rattle.front_chain.specs.declared.chain.Side.{Side}
 use Rattle.front_chain.specs.contracts.chain.SidePartialEq.TheImpl as eq
 use Rattle.front_chain.specs.Front.{line_at, number_between}
@@ -25,7 +25,7 @@ eq_self n = grind arith
 eq_other : (m n : ℕ) → (m ≡ n → ⊥) → nat_eq m n ≡ false
 eq_other m n h = grind arith
 
-eq_sound : (m n : ℕ) → nat_eq m n ≡ true → m ≡ n
+pub eq_sound : (m n : ℕ) → nat_eq m n ≡ true → m ≡ n
 eq_sound m n h = grind arith
 
 clash : {A : Type 0} → true ≡ false → A
@@ -83,7 +83,7 @@ pub no_line_zero : (made : List (Option Side)) → line_at (lines_from 1 made) 0
 no_line_zero made = line_below 1 0 made (omega arith)
 
 -- past the table there is none
-past_end : (made : List (Option Side)) (i : ℕ) → length made ≤ i → side_at made i ≡ None
+pub past_end : (made : List (Option Side)) (i : ℕ) → length made ≤ i → side_at made i ≡ None
 past_end [] i h = refl
 past_end (m ∷ made) zero h = absurd (omega (arith, h))
 past_end (m ∷ made) (suc i) h = past_end made i (omega (arith, h))
@@ -95,9 +95,6 @@ no_line_past made n h = line_numbered made n (omega arith) ∙ ap (option_map en
 -- no place has the side
 abbrev pub IsNowhere : List (Option Side) → Side → Type 0
 IsNowhere made s = (i : ℕ) → side_at made i ≡ Some s → ⊥
-
-joins : ℕ → Side → Side → Bool
-joins n t s = does_join (n, t.from, t.to) (s.from, s.to)
 
 other_side : (t s : Side) → (t ≡ s → ⊥) → same_side t s ≡ false
 other_side t s h = by (same_side t s) refl
@@ -112,18 +109,6 @@ number_absent n (None ∷ made) s h = number_absent (n + 1) made s (λ i e. h (s
 number_absent n (Some t ∷ made) s h = ap (λ b. option_map (λ (line : ℕ × ℕ × ℕ). line.0) (cond b (Some (n, t.from, t.to)) (find (λ line. nat_eq line.1 s.from && nat_eq line.2 s.to) (lines_from (n + 1) made)))) (other_side t s (λ e. h zero (ap Some e)))
     ∙ number_absent (n + 1) made s (λ i e. h (suc i) e)
 
-pub any_absent : (n : ℕ) (made : List (Option Side)) (s : Side) → IsNowhere made s → list_any (λ line. does_join line (s.from, s.to)) (lines_from n made) ≡ false
-any_absent n [] s h = refl
-any_absent n (None ∷ made) s h = any_absent (n + 1) made s (λ i e. h (suc i) e)
-any_absent n (Some t ∷ made) s h = ap (λ b. b || list_any (λ line. does_join line (s.from, s.to)) (lines_from (n + 1) made)) (other_side t s (λ e. h zero (ap Some e)))
-    ∙ any_absent (n + 1) made s (λ i e. h (suc i) e)
-
-pub glue_absent : (n next : ℕ) (made : List (Option Side)) (s : Side) → IsNowhere made s → glue_line (lines_from n made) next (s.from, s.to) ≡ lines_from n made ++ (next, s.to, s.from) ∷ []
-glue_absent n next [] s h = refl
-glue_absent n next (None ∷ made) s h = glue_absent (n + 1) next made s (λ i e. h (suc i) e)
-glue_absent n next (Some t ∷ made) s h = ap (λ b. elim b [ true ↦ lines_from (n + 1) made | false ↦ (n, t.from, t.to) ∷ glue_line (lines_from (n + 1) made) next (s.from, s.to) ]) (other_side t s (λ e. h zero (ap Some e)))
-    ∙ ap (λ ls. (n, t.from, t.to) ∷ ls) (glue_absent (n + 1) next made s (λ i e. h (suc i) e))
-
 -- ---- a side that is a line
 -- the place is the first that has the side
 pub record IsFirstAt (made : List (Option Side)) (s : Side) (i : ℕ) : Type 0 where
@@ -136,10 +121,10 @@ rest_first m made s i h = record { here = h.here; not_before = λ j l e. h.not_b
 not_first : (t : Side) (made : List (Option Side)) (s : Side) (i : ℕ) → IsFirstAt (Some t ∷ made) s (suc i) → same_side t s ≡ false
 not_first t made s i h = other_side t s (λ e. h.not_before zero (omega arith) (ap Some e))
 
-some_side : (s t : Side) → Some s ≡ Some t → s ≡ t
+pub some_side : (s t : Side) → Some s ≡ Some t → s ≡ t
 some_side s t e = cc
 
-no_side : {A : Type 0} (s : Side) → None ≡ Some s → A
+pub no_side : {A : Type 0} (s : Side) → None ≡ Some s → A
 no_side s e = absurd (cc)
 
 itself : (t s : Side) → Some t ≡ Some s → same_side t s ≡ true
@@ -161,14 +146,6 @@ number_present n (suc i) (Some t ∷ made) s h = ap (λ b. option_map (λ (line 
   where
     later : (n i : ℕ) → (n + 1) + i ≡ n + suc i
     later n i = omega arith
-
-pub any_present : (n i : ℕ) (made : List (Option Side)) (s : Side) → IsFirstAt made s i → list_any (λ line. does_join line (s.from, s.to)) (lines_from n made) ≡ true
-any_present n i [] s h = no_side s h.here
-any_present n zero (None ∷ made) s h = no_side s h.here
-any_present n zero (Some t ∷ made) s h = ap (λ b. b || list_any (λ line. does_join line (s.from, s.to)) (lines_from (n + 1) made)) (itself t s h.here)
-any_present n (suc i) (None ∷ made) s h = any_present (n + 1) i made s (rest_first None made s i h)
-any_present n (suc i) (Some t ∷ made) s h = ap (λ b. b || list_any (λ line. does_join line (s.from, s.to)) (lines_from (n + 1) made)) (not_first t made s i h)
-    ∙ any_present (n + 1) i made s (rest_first (Some t) made s i h)
 
 pub glue_present : (n i next : ℕ) (made : List (Option Side)) (s : Side) → IsFirstAt made s i → glue_line (lines_from n made) next (s.from, s.to) ≡ lines_from n (set made i None)
 glue_present n i next [] s h = no_side s h.here

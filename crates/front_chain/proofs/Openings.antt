@@ -27,6 +27,7 @@ use Rattle.state_law.specs.Free.{AreFreeOf, AreAlike}
 use Rattle.state_law.specs.State.{pair_edge}
 use Rattle.front_chain.specs.declared.opening.TheConstants.{SWEEP}
 use Rattle.front_chain.specs.Front.{number_between, numbered_from}
+use Rattle.front_chain.proofs.Lines.{eq_sound}
 
 -- ---- what a line sweeps
 minus_none : (z : ℤ) → z -ℤ pos 0 ≡ z
@@ -51,9 +52,6 @@ numbered_push n (l ∷ lines) e = ap (λ ls. (n, l.0, l.1) ∷ ls) (numbered_pus
   where
     later : (n k : ℕ) → (n + 1) + k ≡ n + suc k
     later n k = omega arith
-
-eq_sound : (m n : ℕ) → nat_eq m n ≡ true → m ≡ n
-eq_sound m n h = grind arith
 
 -- two pairs that aren't alike as edges aren't equal
 apart : (points : List Point) (l e : ℕ × ℕ) → (AreAlike (pair_edge points l) (pair_edge points e) → ⊥) → (nat_eq l.0 e.0 && nat_eq l.1 e.1) ≡ false

@@ -1,4 +1,4 @@
--- Points by their places: what the table of places says of a place that isn't listed.
+-- Points by their places: what the table of places says of a place that is not listed. Stands on wind_law's ClosedSums.
 use Prim.Native.Nat.{ℕ, zero, suc, ◌+◌, ◌≤◌, ◌<◌}
 use lib.ListN.{length, get_or, take}
 use mathlib.Core.Path.{◌≡◌, refl, sym, ap, ◌∙◌, subst}

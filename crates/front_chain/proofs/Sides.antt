@@ -22,7 +22,7 @@ there (line ∷ lines) a b n e = by (does_join line (a, b)) refl e (there lines 
     by true f h rest = ap (λ d. d || is_there lines a b) f
     by false f h rest = ap (λ d. d || is_there lines a b) f ∙ rest h
 
-not_first : (line : ℕ × ℕ × ℕ) (lines : List (ℕ × ℕ × ℕ)) (a b : ℕ) → number_between (line ∷ lines) a b ≡ None → (does_join line (a, b) ≡ false) × (number_between lines a b ≡ None)
+pub not_first : (line : ℕ × ℕ × ℕ) (lines : List (ℕ × ℕ × ℕ)) (a b : ℕ) → number_between (line ∷ lines) a b ≡ None → (does_join line (a, b) ≡ false) × (number_between lines a b ≡ None)
 not_first line lines a b e = by (does_join line (a, b)) refl e
   where
     by : (c : Bool) → does_join line (a, b) ≡ c → option_map (λ (line : ℕ × ℕ × ℕ). line.0) (cond c (Some line) (find (λ line. does_join line (a, b)) lines)) ≡ None → (does_join line (a, b) ≡ false) × (number_between lines a b ≡ None)

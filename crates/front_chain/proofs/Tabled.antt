@@ -10,12 +10,11 @@ use Rattle.std.specs.Prelude.{nat_eq, Option, Some, None}
 use Rattle.std.proofs.lemmas.List.{get_or-set_same, get_or-set_other, length-set, length-append, get_or_append_left}
 use Rattle.std.specs.Map.{lookup}
 use Rattle.grid_geom.specs.declared.Point.{Point}
-use Rattle.state_law.specs.State.{IsListed, does_join, glue_line}
-use Rattle.std.specs.List.{list_any}
+use Rattle.state_law.specs.State.{IsListed, glue_line}
 use Rattle.front_chain.specs.declared.chain.Side.{Side}
 use Rattle.front_chain.specs.Front.{number_between}
 use Rattle.front_chain.specs.Tables.{side_at, lines_from, leaving_of, AreTables}
-use Rattle.front_chain.proofs.Lines.{same_side, same_self, same_sound, eq_self, IsNowhere, IsFirstAt, number_absent, number_present, lines_push, leaving_more, leaving_less, glue_absent, glue_present, any_absent, any_present}
+use Rattle.front_chain.proofs.Lines.{same_side, same_self, same_sound, eq_self, IsNowhere, IsFirstAt, number_absent, number_present, lines_push, leaving_more, leaving_less, glue_present}
 
 -- ---- places of the table after a push and after a line has left
 push_place : (made : List (Option Side)) (t s : Side) (i : ℕ) → side_at (made ++ Some t ∷ []) i ≡ Some s → (side_at made i ≡ Some s) ⊎ ((i ≡ length made) × (t ≡ s))
@@ -270,15 +269,6 @@ module _ {points : List Point} {leaving : List ℕ} {made : List (Option Side)} 
 
   pub lines_left : (next : ℕ) (s : Side) (n : ℕ) → number s ≡ Some n → lines_from 1 (set made (n - 1) None) ≡ glue_line (lines_from 1 made) next (s.from, s.to)
   lines_left next s n e = sym (glue_present 1 (n - 1) next made s (first_at h s n e))
-
-  pub lines_joined : (next : ℕ) (s : Side) → number s ≡ None → lines_from 1 made ++ (next, s.to, s.from) ∷ [] ≡ glue_line (lines_from 1 made) next (s.from, s.to)
-  lines_joined next s e = sym (glue_absent 1 next made s (nowhere h s e))
-
-  pub any_left : (s : Side) (n : ℕ) → number s ≡ Some n → list_any (λ line. does_join line (s.from, s.to)) (lines_from 1 made) ≡ true
-  any_left s n e = any_present 1 (n - 1) made s (first_at h s n e)
-
-  pub any_joined : (s : Side) → number s ≡ None → list_any (λ line. does_join line (s.from, s.to)) (lines_from 1 made) ≡ false
-  any_joined s e = any_absent 1 made s (nowhere h s e)
 
   -- the two steps, with the count as it was read
   pub joined_at : {after : Side → Option ℕ} (t : Side) (k n : ℕ) → k ≡ get_or leaving (t.from - 1) 0 → n ≡ length made + 1 → IsListed (length points) t.from → IsListed (length points) t.to → number t ≡ None →

@@ -20,7 +20,7 @@ use Rattle.front_chain.specs.declared.chain.Side.{Side}
 use Rattle.front_chain.specs.declared.front.Near.{Near}
 use Rattle.front_chain.specs.Front.{FrontState, line_at, is_near, does_meet, IsWalk}
 use Rattle.front_chain.specs.Tables.{side_at, lines_from, AreTables}
-use Rattle.front_chain.proofs.Lines.{same_side, same_self, same_sound, ends, line_numbered, no_line_zero, lines_rise}
+use Rattle.front_chain.proofs.Lines.{same_side, same_self, same_sound, ends, line_numbered, no_line_zero, lines_rise, no_side, some_side}
 
 -- ---- `==` of sides is an equivalence
 turned : (s t : Side) (b c : Bool) → same_side s t ≡ b → same_side t s ≡ c → b ≡ c
@@ -88,12 +88,6 @@ entry_walk (f ∷ es) test n e = by (test f.0) e (entry_walk es test n)
     by false g rest = or_right (nat_eq n f.1) (list_any (nat_eq n) (values_of es)) (rest g)
 
 -- ---- each line's number once, and no other
-some_side : (s t : Side) → Some s ≡ Some t → s ≡ t
-some_side s t e = cc
-
-no_side : {A : Type 0} (s : Side) → None ≡ Some s → A
-no_side s e = absurd (cc)
-
 each_once : {points : List Point} {leaving : List ℕ} (made : List (Option Side)) (es : List (Side × ℕ)) → AreTables points leaving made (λ s. lookup (same_side s) es) → AreEntered made es →
     (n : ℕ) → list_any (nat_eq n) (values_of es) ≡ is_some (line_at (lines_from 1 made) n)
 each_once made es h k zero = by (list_any (nat_eq 0) (values_of es)) refl ∙ sym (ap is_some (no_line_zero made))

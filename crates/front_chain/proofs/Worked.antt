@@ -1,6 +1,6 @@
 -- A triangle is an opening, and the element of its three corners may be glued to it: so the conditions of `open` and `glue` can be met.
 use lib.IntN.{pos}
-use lib.Signed.{◌<ℤ◌, ◌≤ℤ◌}
+use lib.Signed.{◌<ℤ◌}
 use mathlib.Core.Path.{◌≡◌, refl, sym, subst}
 use mathlib.Core.List.{List, [], ◌∷◌}
 use native.Mathlib.Omega.{arith}

@@ -50,11 +50,13 @@ impl Model for Chain {
       next = 1 + length c.made.items;
       walk = values c.sides;
       waiting = c.waiting.items;
-      spare_points = min (room_of_set c.places) (min (vec_capacity c.leaving - vec_len c.leaving) (vec_capacity c.waiting - vec_len c.waiting));
+      spare_points = min (room_of_set c.places)
+          (min (vec_capacity c.leaving - vec_len c.leaving) (vec_capacity c.waiting - vec_len c.waiting));
       spare_lines = min (room_of_map c.sides) (vec_capacity c.made - vec_len c.made);
     } };
 
-    ghost invariant = { λ c. AreTables c.places.keys c.leaving.items c.made.items (λ s. get side.eq c.sides s) × IsUnique side.eq c.sides };
+    ghost invariant = { λ c. AreTables c.places.keys c.leaving.items c.made.items (λ s. get side.eq c.sides s) ×
+        IsUnique side.eq c.sides };
 }
 
 /// The ends of the line with this number in a table by line numbers.
@@ -156,7 +158,8 @@ impl Chain {
     /// Takes the line with these ends and this number off the front.
     fn leave(&mut self, side: Side, number: u64)
         requires there { number_between self.old.lines side.from side.to ≡ Some number }
-        ensures lines { self.new.lines ≡ glue_line self.old.lines self.old.next (side.from, side.to) }
+        ensures lines { self.new.lines ≡
+            glue_line self.old.lines self.old.next (side.from, side.to) }
         ensures next { self.new.next ≡ self.old.next }
         ensures points { self.new.points ≡ self.old.points }
         ensures waiting { self.new.waiting ≡ self.old.waiting }
@@ -174,7 +177,8 @@ impl Chain {
         requires from { IsListed (length self.old.points) side.from }
         requires to { IsListed (length self.old.points) side.to }
         requires absent { number_between self.old.lines side.from side.to ≡ None }
-        ensures lines { self.new.lines ≡ self.old.lines ++ (self.old.next, side.from, side.to) ∷ [] }
+        ensures lines { self.new.lines ≡
+            self.old.lines ++ (self.old.next, side.from, side.to) ∷ [] }
         ensures next { self.new.next ≡ self.old.next + 1 }
         ensures points { self.new.points ≡ self.old.points }
         ensures waiting { self.new.waiting ≡ self.old.waiting }
@@ -193,8 +197,10 @@ impl Chain {
         requires from { IsListed (length self.old.points) side.from }
         requires to { IsListed (length self.old.points) side.to }
         requires not_backwards { number_between self.old.lines side.to side.from ≡ None }
-        ensures lines { self.new.lines ≡ glue_line self.old.lines self.old.next (side.from, side.to) }
-        ensures next { self.new.next ≡ next_after self.old.lines self.old.next (side.from, side.to) }
+        ensures lines { self.new.lines ≡
+            glue_line self.old.lines self.old.next (side.from, side.to) }
+        ensures next { self.new.next ≡
+            next_after self.old.lines self.old.next (side.from, side.to) }
         ensures points { self.new.points ≡ self.old.points }
         ensures waiting { self.new.waiting ≡ self.old.waiting }
         ensures spare_points { self.new.spare_points ≡ self.old.spare_points }
@@ -309,7 +315,8 @@ impl Chain {
 
     /// No point waits that a line leaves.
     pub fn use_starts(&mut self)
-        ensures waiting { self.new.waiting ≡ filter (λ n. not (list_any (λ line. nat_eq line.1 n) self.old.lines)) self.old.waiting }
+        ensures waiting { self.new.waiting ≡
+            filter (λ n. not (list_any (λ line. nat_eq line.1 n) self.old.lines)) self.old.waiting }
         ensures walked { IsWalk self.new.walk self.new.lines }
         ensures positive { AllByRecursion (λ line. 1 ≤ line.0) self.new.lines }
         ensures points { self.new.points ≡ self.old.points }

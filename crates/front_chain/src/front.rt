@@ -165,14 +165,15 @@ impl Front {
     /// The first line of the front's walk after this one whose box meets `b`.
     pub fn next_near(&self, b: &Bounds, after: &Near) -> Option<Near>
         requires { IsTrue (is_near self.now b.now after.now.line) }
-        ensures next { option_map (λ near. near.line) result ≡ next_in_walk self.now b.now after.now.line }
+        ensures next { option_map (λ near. near.line) result ≡
+            next_in_walk self.now b.now after.now.line }
         ensures near { IfSome result (λ near. IsTrue (is_near self.now b.now near.line)) }
     {
         met(self.chain.next_near(b, after.line))
     }
 
     /// Takes memory for so many more points and elements. Whatever it answers, the points, the lines and
-    /// the next line number are as before.
+    /// the next line number are as before. Elements whose lines no number could count are want of memory too.
     pub fn reserve(&mut self, points: usize, elements: usize) -> Result<(), OutOfMemory>
         ensures points { self.new.points ≡ self.old.points }
         ensures lines { self.new.lines ≡ self.old.lines }

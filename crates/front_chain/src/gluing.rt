@@ -13,9 +13,12 @@ use grid_geom::{Point, double_area};
 /// Glues the sides from `from` by the rest of the corners and on to `first`.
 fn glue_way(chain: &mut Chain, first: u64, from: u64, rest: &[u64])
     requires room { length rest.now < chain.old.spare_lines }
-    requires can { CanJoin (length chain.old.points) chain.old.lines (number_way first from rest.now) }
-    ensures lines { chain.new.lines ≡ glue_lines chain.old.lines chain.old.next (number_way first from rest.now) }
-    ensures next { chain.new.next ≡ next_after_all chain.old.lines chain.old.next (number_way first from rest.now) }
+    requires can { CanJoin (length chain.old.points) chain.old.lines
+        (number_way first from rest.now) }
+    ensures lines { chain.new.lines ≡
+        glue_lines chain.old.lines chain.old.next (number_way first from rest.now) }
+    ensures next { chain.new.next ≡
+        next_after_all chain.old.lines chain.old.next (number_way first from rest.now) }
     ensures points { chain.new.points ≡ chain.old.points }
     ensures waiting { chain.new.waiting ≡ chain.old.waiting }
     ensures spare_points { chain.new.spare_points ≡ chain.old.spare_points }
@@ -34,8 +37,10 @@ fn glue_way(chain: &mut Chain, first: u64, from: u64, rest: &[u64])
 pub fn glue_sides(chain: &mut Chain, corners: &[u64])
     requires room { length corners.now ≤ chain.old.spare_lines }
     requires can { CanJoin (length chain.old.points) chain.old.lines (number_sides corners.now) }
-    ensures lines { chain.new.lines ≡ glue_lines chain.old.lines chain.old.next (number_sides corners.now) }
-    ensures next { chain.new.next ≡ next_after_all chain.old.lines chain.old.next (number_sides corners.now) }
+    ensures lines { chain.new.lines ≡
+        glue_lines chain.old.lines chain.old.next (number_sides corners.now) }
+    ensures next { chain.new.next ≡
+        next_after_all chain.old.lines chain.old.next (number_sides corners.now) }
     ensures points { chain.new.points ≡ chain.old.points }
     ensures waiting { chain.new.waiting ≡ chain.old.waiting }
     ensures spare_points { chain.new.spare_points ≡ chain.old.spare_points }

@@ -49,7 +49,8 @@ pub fn join_lines(chain: &mut Chain, lines: &[(u64, u64)])
     requires empty { chain.old.lines ≡ [] }
     requires first { chain.old.next ≡ 1 }
     requires room { length lines.now ≤ chain.old.spare_lines }
-    requires listed { AllByRecursion (λ ends. IsListed (length chain.old.points) ends.0 × IsListed (length chain.old.points) ends.1) lines.now }
+    requires listed { AllByRecursion (λ ends. IsListed (length chain.old.points) ends.0 ×
+        IsListed (length chain.old.points) ends.1) lines.now }
     requires single { AreFreeOf AreAlike (map (pair_edge chain.old.points) lines.now) }
     ensures lines { chain.new.lines ≡ numbered_from 1 lines.now }
     ensures next { chain.new.next ≡ 1 + length lines.now }
@@ -67,7 +68,8 @@ pub fn join_lines(chain: &mut Chain, lines: &[(u64, u64)])
 /// Twice the signed area that the lines go round.
 pub fn swept_area(points: &[Point], lines: &[(u64, u64)]) -> i128
     requires on_grid { All IsOnGrid points.now }
-    requires listed { AllByRecursion (λ ends. IsListed (length points.now) ends.0 × IsListed (length points.now) ends.1) lines.now }
+    requires listed { AllByRecursion (λ ends. IsListed (length points.now) ends.0 ×
+        IsListed (length points.now) ends.1) lines.now }
     ensures { result ≡ shoelace (map (pair_edge points.now) lines.now) }
 {
     let mut area: i128 = 0;

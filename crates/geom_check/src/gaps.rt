@@ -83,7 +83,8 @@ fn is_nearer(p: &Passing, nearest: &Option<Passing>) -> bool
     }
 }
 
-/// The nearest riser that passes a strip to the right of another.
+/// The nearest riser that passes a strip to the right of another: among all risers, since gaps end
+/// at each, while a fault is found at those alone where a winding number changes.
 fn gap_end(strip: &Strip, risers: &[Riser], left: &Passing) -> Option<Passing>
     requires strip { IsStripOnGrid strip.now }
     requires risers { All IsRiserOnGrid risers.now }

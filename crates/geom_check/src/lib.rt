@@ -36,7 +36,6 @@ pub use checking::check;
 pub use domains::domain_numbers;
 pub use geometry::Geometry;
 pub use kinds::{Domain, Domains, Segment, Segments, Source, Sources};
-pub use placing::{Placed, place};
 pub use refusal::GeomRefusal;
 
 #[cfg(test)]

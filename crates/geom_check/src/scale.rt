@@ -15,7 +15,7 @@ pub struct Scale {
 }
 
 /// `size` * 10 ^ `exponent`, where that is at most `MOST_UNITS`.
-fn grown(size: u128, exponent: u32) -> Option<u64>
+fn units_up(size: u128, exponent: u32) -> Option<u64>
     requires { size < 10 ^ 30 }
     ensures fits { IfSome result (λ n. n ≡ size * 10 ^ exponent) }
     ensures small { IfSome result (λ n. n ≤ MOST_UNITS) }
@@ -24,25 +24,27 @@ fn grown(size: u128, exponent: u32) -> Option<u64>
     if size == 0 {
         return Some(0);
     }
+    // A size of at least 1 is past 2^14 from 10^5 on.
     if exponent > 4 {
         return None;
     }
-    let grown = size * 10u128.pow(exponent);
-    if grown > MOST_UNITS as u128 {
+    let units = size * 10u128.pow(exponent);
+    if units > MOST_UNITS as u128 {
         None
     } else {
-        Some(grown as u64)
+        Some(units as u64)
     }
 }
 
 /// `size` / 10 ^ `exponent`, rounded to the nearest whole number, halves upwards, where that is at
 /// most `MOST_UNITS`.
-fn shrunk(size: u128, exponent: u32) -> Option<u64>
+fn units_down(size: u128, exponent: u32) -> Option<u64>
     requires { size < 10 ^ 30 }
     ensures fits { IfSome result (λ n. n ≡ nearest size (10 ^ exponent)) }
     ensures small { IfSome result (λ n. n ≤ MOST_UNITS) }
     ensures too_large { IfNone result (MOST_UNITS < nearest size (10 ^ exponent)) }
 {
+    // A size is below 10^30, so that less than half a unit is left from 10^32 on.
     if exponent > 31 {
         return Some(0);
     }
@@ -56,13 +58,14 @@ fn shrunk(size: u128, exponent: u32) -> Option<u64>
 }
 
 /// 64 * `size` * 10 ^ `exponent`, at least 1 and at most `LONGEST`.
-fn long(size: u128, exponent: u32) -> u64
+fn length_up(size: u128, exponent: u32) -> u64
     requires { size < 10 ^ 30 }
     ensures { result ≡ max 1 (min LONGEST (64 * size * 10 ^ exponent)) }
 {
     if size == 0 {
         return 1;
     }
+    // 64 * 10^6 is past the greatest length.
     if exponent > 5 {
         return LONGEST;
     }
@@ -70,10 +73,11 @@ fn long(size: u128, exponent: u32) -> u64
 }
 
 /// 64 * `size` / 10 ^ `exponent`, rounded downwards, at least 1 and at most `LONGEST`.
-fn short(size: u128, exponent: u32) -> u64
+fn length_down(size: u128, exponent: u32) -> u64
     requires { size < 10 ^ 30 }
     ensures { result ≡ max 1 (min LONGEST (64 * size / 10 ^ exponent)) }
 {
+    // A size is below 10^30, so that no grid step is left from 10^32 on.
     if exponent > 31 {
         return 1;
     }
@@ -93,9 +97,9 @@ impl Scale {
         let size = v.digits.unsigned_abs();
         let exponent = v.scale + self.shift;
         if exponent >= 0 {
-            grown(size, exponent as u32)
+            units_up(size, exponent as u32)
         } else {
-            shrunk(size, exponent.unsigned_abs())
+            units_down(size, exponent.unsigned_abs())
         }
     }
 
@@ -133,9 +137,9 @@ impl Scale {
         let size = v.digits.unsigned_abs();
         let exponent = v.scale + self.shift;
         if exponent >= 0 {
-            long(size, exponent as u32)
+            length_up(size, exponent as u32)
         } else {
-            short(size, exponent.unsigned_abs())
+            length_down(size, exponent.unsigned_abs())
         }
     }
 

@@ -1,21 +1,16 @@
 -- What is read can be printed.
-use Rattle.std.proofs.Common.{◌≡◌, ℕ, zero, suc, ◌^◌, ◌<◌, ◌≤◌, Bool, true, false, ◌&&◌, List, [], ◌∷◌, ◌++◌, length, Option, Some, None, Result, Ok, Err, unsigned_abs, refl, sym, ap, subst, ◌∙◌, arith, length-append}
+use Rattle.std.proofs.Common.{◌≡◌, ℕ, zero, suc, ◌<◌, ◌≤◌, ◌&&◌, List, [], ◌∷◌, ◌++◌, Option, Some, None, Result, Ok, Err, refl, sym, ap, subst, ◌∙◌, arith}
 use Rattle.std.specs.Prelude.{IfOk, IfSome, nat_le}
 use Rattle.std.specs.List.{flat_map, AllByRecursion}
-use Rattle.std.specs.Str.{all_ascii_digits}
-use Rattle.std.specs.Str.Parse.{digits_value}
-use Rattle.std.proofs.Math.Nat.{pow-le-pow_right}
-use Rattle.std.proofs.lemmas.Bool.{leb-true, and_parts, and_from}
+use Rattle.std.proofs.lemmas.Bool.{leb-true, and_parts}
 use Rattle.std.proofs.lemmas.Option.{cond_some}
-use Rattle.std.proofs.lemmas.Int.Digits.{digits_value-lt}
-use Rattle.std.proofs.lemmas.Str.Parse.{IsNumeralModel, numerals_by_value, tells_all_ascii_digits}
 use Rattle.word_scan.specs.declared.decimals.Dec.{Dec}
 use Rattle.word_scan.specs.Parts.{Part, Space, Note, Run, IsRun, AreParts, runs}
 use Rattle.word_scan.specs.Scan.{words_of}
 use Rattle.word_scan.specs.Numerals.{whole_of, is_whole, value_of}
-use Rattle.word_scan.specs.Decimals.{decimal_of, is_minus, signed, fraction_digits, value}
+use Rattle.word_scan.specs.Decimals.{decimal_of, value}
 use Rattle.word_scan.proofs.Laws.{reads_text}
-use Rattle.word_scan.proofs.DecimalLaws.{decimal_found}
+use Rattle.word_scan.proofs.DecimalLaws.{decimal_found, decimal_is_small}
 use Rattle.in2d_reader.specs.declared.geometry.PointRow.{PointRow}
 use Rattle.in2d_reader.specs.declared.geometry.SegmentRow.{SegmentRow}
 use Rattle.in2d_reader.specs.declared.geometry.MaterialRow.{MaterialRow}
@@ -50,30 +45,12 @@ whole_le word greatest n e =
     let le = leb-true (value_of word) greatest (and_parts (is_whole word) (nat_le (value_of word) greatest) c.0).1 in
     omega (arith, le, c.1)
 
-abs_signed : (minus : Bool) (n : ℕ) → unsigned_abs (signed minus n) ≡ n
-abs_signed true zero = refl
-abs_signed true (suc n) = refl
-abs_signed false n = refl
-
-own : IsNumeralModel (λ ds. all_ascii_digits ds ≡ true) (digits_value 10)
-own = numerals_by_value _ tells_all_ascii_digits
-
-both_digits : (a b : List ℕ) → all_ascii_digits a ≡ true → all_ascii_digits b ≡ true → all_ascii_digits (a ++ b) ≡ true
-both_digits [] b p q = q
-both_digits (x ∷ a) b p q = let h = and_parts _ (all_ascii_digits a) p in and_from _ (all_ascii_digits (a ++ b)) h.0 (both_digits a b h.1 q)
-
 dec_is : (word : Word) (d : Dec) → decimal_of word ≡ Some d → IsDec d
 dec_is word d e =
     let f = decimal_found word d e in
     let parts = f.0 in
     let is = f.1 in
-    let ds = parts.front ++ fraction_digits parts.fraction in
-    let all : all_ascii_digits ds ≡ true = both_digits parts.front (fraction_digits parts.fraction) is.front is.behind in
-    let below : value_of ds < 10 ^ length ds = digits_value-lt 10 ds (own.to ds all) in
-    let few : length ds ≤ 30 = omega (arith, length-append parts.front (fraction_digits parts.fraction), is.few) in
-    let most : 10 ^ length ds ≤ 10 ^ 30 = pow-le-pow_right {n = 10} (omega arith) few in
-    let size : unsigned_abs (value parts).digits ≡ value_of ds = abs_signed (is_minus parts.sign) (value_of ds) in
-    let made : IsDec (value parts) = record { digits = omega (arith, below, most, size); scale = is.scale } in
+    let made : IsDec (value parts) = record { digits = decimal_is_small parts is; scale = is.scale } in
     subst (λ (v : Dec). IsDec v) (sym f.3) made
 
 from_one_some : (o : Option ℕ) (n : ℕ) → from_one o ≡ Some n → (o ≡ Some n) × (0 < n)

@@ -18,7 +18,7 @@ use Rattle.word_scan.specs.Parts.{IsRun, StartsNoNote}
 use Rattle.word_scan.specs.Scan.{words_of}
 use Rattle.word_scan.specs.Numerals.{whole_of, value_of}
 use Rattle.word_scan.specs.Decimals.{decimal_of, Sign, NoSign, Plus, Minus, is_minus, signed, sign_text, fraction_text, fraction_digits, power_text, Power, IsPowerIfAny, DecimalParts, IsDecimal, spelling, value}
-use Rattle.word_scan.proofs.DecimalLaws.{decimal_read}
+use Rattle.word_scan.proofs.DecimalLaws.{decimal_read, all_digits_both}
 use Rattle.in2d_reader.specs.declared.geometry.PointRow.{PointRow}
 use Rattle.in2d_reader.specs.declared.geometry.SegmentRow.{SegmentRow}
 use Rattle.in2d_reader.specs.declared.geometry.MaterialRow.{MaterialRow}
@@ -44,10 +44,6 @@ whole_again n greatest le small =
     rw (lt-ltb 0 (length (decimal n)) some, le-leb (length (decimal n)) 13 few, all, value, le-leb n greatest le) refl
 
 -- ---- decimals
-
-all_both : (a b : List ℕ) → all_ascii_digits a ≡ true → all_ascii_digits b ≡ true → all_ascii_digits (a ++ b) ≡ true
-all_both [] b p q = q
-all_both (x ∷ a) b p q = let h = and_parts (is_ascii_digit x) (all_ascii_digits a) p in and_from (is_ascii_digit x) (all_ascii_digits (a ++ b)) h.0 (all_both a b h.1 q)
 
 all_parts : (a b : List ℕ) → all_ascii_digits (a ++ b) ≡ true → (all_ascii_digits a ≡ true) × (all_ascii_digits b ≡ true)
 all_parts [] b p = (refl, p)
@@ -91,7 +87,7 @@ filled_digits k m le small =
     let d = wide m 30 (omega arith) (omega arith) small in
     let n = k + 1 - length (decimal m) in
     let len : length (filled k (decimal m)) ≡ n + length (decimal m) = length-append (replicate n 48) (decimal m) ∙ ap (λ (j : ℕ). j + length (decimal m)) (length-replicate n 48) in
-    (record { all = all_both (replicate n 48) (decimal m) (noughts_all n) d.all; value = noughts_value n (decimal m) ∙ d.value; some = omega (arith, len, d.some); few = omega (arith, len, d.few) }, omega (arith, len))
+    (record { all = all_digits_both (replicate n 48) (decimal m) (noughts_all n) d.all; value = noughts_value n (decimal m) ∙ d.value; some = omega (arith, len, d.some); few = omega (arith, len, d.few) }, omega (arith, len))
 
 signed_again : (z : ℤ) → signed (is_minus (sign_of z)) (unsigned_abs z) ≡ z
 signed_again (pos n) = refl

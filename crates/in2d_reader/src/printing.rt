@@ -12,6 +12,7 @@ use crate::geometry::{MaterialRow, PointRow, RawGeometry, SegmentRow};
 use std::alloc::{AllocError, Global};
 use word_scan::Dec;
 
+/// Writes a whole number.
 fn put_number(alloc: Global, out: &mut Vec<u8>, n: u128) -> Result<(), AllocError>
     ensures { OnOk result (out.new.items ≡ out.old.items ++ decimal n) }
 {
@@ -38,7 +39,8 @@ fn put_plain(
     places: usize,
 ) -> Result<(), AllocError>
     requires { places < 2 ^ 32 }
-    ensures { OnOk result (out.new.items ≡ out.old.items ++ plain_text (filled places digits.now) places) }
+    ensures { OnOk result (out.new.items ≡ out.old.items ++ plain_text
+        (filled places digits.now) places) }
 {
     let mut all = vec![in alloc; b'0'; (places + 1).saturating_sub(digits.len())]?;
     all.extend_from_slice(digits)?;
@@ -53,7 +55,8 @@ fn put_plain(
 
 /// The power of ten of a decimal.
 fn put_power(alloc: Global, out: &mut Vec<u8>, dec: &Dec) -> Result<(), AllocError>
-    ensures { OnOk result (out.new.items ≡ out.old.items ++ (101 ∷ (sign_text (sign_of dec.now.scale) ++ decimal (unsigned_abs dec.now.scale)))) }
+    ensures { OnOk result (out.new.items ≡ out.old.items ++
+        (101 ∷ (sign_text (sign_of dec.now.scale) ++ decimal (unsigned_abs dec.now.scale)))) }
 {
     out.push(b'e')?;
     put_sign(out, &i128::from(dec.scale))?;
@@ -76,12 +79,14 @@ fn put_decimal(alloc: Global, out: &mut Vec<u8>, dec: &Dec) -> Result<(), AllocE
     Ok(())
 }
 
+/// The size of a decimal's digits.
 fn size_of(dec: &Dec) -> u128
     ensures { result ≡ unsigned_abs dec.now.digits }
 {
     dec.digits.unsigned_abs()
 }
 
+/// How many digits a plain decimal has behind its point.
 fn places_of(dec: &Dec) -> usize
     ensures value { result ≡ unsigned_abs dec.now.scale }
     ensures small { result < 2 ^ 32 }
@@ -89,12 +94,14 @@ fn places_of(dec: &Dec) -> usize
     dec.scale.unsigned_abs() as usize
 }
 
+/// Whether a decimal is written plainly, and not with an exponent.
 fn is_plain(dec: &Dec) -> bool
     ensures { result ≡ is_plain dec.now.scale }
 {
     dec.scale >= -20 && dec.scale <= 0
 }
 
+/// Writes the flag of a size, where there is one.
 #[tactic(auto, unfolding(crate::specs::Words::maxh_text))]
 fn put_size(alloc: Global, out: &mut Vec<u8>, maxh: &Option<Dec>) -> Result<(), AllocError>
     ensures { OnOk result (out.new.items ≡ out.old.items ++ spaced (size_flags maxh.now)) }
@@ -106,6 +113,7 @@ fn put_size(alloc: Global, out: &mut Vec<u8>, maxh: &Option<Dec>) -> Result<(), 
     Ok(())
 }
 
+/// Writes the flag of a boundary condition, where there is one.
 #[tactic(auto, unfolding(crate::specs::Words::bc_text))]
 fn put_condition(alloc: Global, out: &mut Vec<u8>, bc: &Option<u32>) -> Result<(), AllocError>
     ensures { OnOk result (out.new.items ≡ out.old.items ++ spaced (number_flags bc.now)) }
@@ -117,6 +125,7 @@ fn put_condition(alloc: Global, out: &mut Vec<u8>, bc: &Option<u32>) -> Result<(
     Ok(())
 }
 
+/// Writes the line of a point.
 fn put_point(alloc: Global, out: &mut Vec<u8>, row: &PointRow) -> Result<(), AllocError>
     ensures { OnOk result (out.new.items ≡ out.old.items ++ line_text (point_line row.now)) }
 {
@@ -139,6 +148,7 @@ fn put_spaced(alloc: Global, out: &mut Vec<u8>, n: u32) -> Result<(), AllocError
     Ok(())
 }
 
+/// Writes the line of a segment.
 #[tactic(auto, unfolding(crate::specs::Words::two_word))]
 fn put_segment(alloc: Global, out: &mut Vec<u8>, row: &SegmentRow) -> Result<(), AllocError>
     ensures { OnOk result (out.new.items ≡ out.old.items ++ line_text (segment_line row.now)) }
@@ -156,13 +166,15 @@ fn put_segment(alloc: Global, out: &mut Vec<u8>, row: &SegmentRow) -> Result<(),
 /// The flags of a segment.
 #[tactic(auto, using(crate::proofs::Texts::spaced_both))]
 fn put_flags(alloc: Global, out: &mut Vec<u8>, row: &SegmentRow) -> Result<(), AllocError>
-    ensures { OnOk result (out.new.items ≡ out.old.items ++ spaced (number_flags row.now.bc ++ size_flags row.now.maxh)) }
+    ensures { OnOk result (out.new.items ≡ out.old.items ++ spaced
+        (number_flags row.now.bc ++ size_flags row.now.maxh)) }
 {
     put_condition(alloc, out, &row.bc)?;
     put_size(alloc, out, &row.maxh)?;
     Ok(())
 }
 
+/// Writes the line of a material.
 fn put_material(alloc: Global, out: &mut Vec<u8>, row: &MaterialRow) -> Result<(), AllocError>
     ensures { OnOk result (out.new.items ≡ out.old.items ++ line_text (material_line row.now)) }
 {
@@ -173,8 +185,10 @@ fn put_material(alloc: Global, out: &mut Vec<u8>, row: &MaterialRow) -> Result<(
     Ok(())
 }
 
+/// Writes the lines of points.
 fn put_points(alloc: Global, out: &mut Vec<u8>, rows: &[PointRow]) -> Result<(), AllocError>
-    ensures { OnOk result (out.new.items ≡ out.old.items ++ flat_map line_text (map point_line rows.now)) }
+    ensures { OnOk result (out.new.items ≡ out.old.items ++ flat_map line_text
+        (map point_line rows.now)) }
 {
     for row in rows {
         put_point(alloc, out, row)?;
@@ -182,8 +196,10 @@ fn put_points(alloc: Global, out: &mut Vec<u8>, rows: &[PointRow]) -> Result<(),
     Ok(())
 }
 
+/// Writes the lines of segments.
 fn put_segments(alloc: Global, out: &mut Vec<u8>, rows: &[SegmentRow]) -> Result<(), AllocError>
-    ensures { OnOk result (out.new.items ≡ out.old.items ++ flat_map line_text (map segment_line rows.now)) }
+    ensures { OnOk result (out.new.items ≡ out.old.items ++ flat_map line_text
+        (map segment_line rows.now)) }
 {
     for row in rows {
         put_segment(alloc, out, row)?;
@@ -191,8 +207,10 @@ fn put_segments(alloc: Global, out: &mut Vec<u8>, rows: &[SegmentRow]) -> Result
     Ok(())
 }
 
+/// Writes the lines of materials.
 fn put_materials(alloc: Global, out: &mut Vec<u8>, rows: &[MaterialRow]) -> Result<(), AllocError>
-    ensures { OnOk result (out.new.items ≡ out.old.items ++ flat_map line_text (map material_line rows.now)) }
+    ensures { OnOk result (out.new.items ≡ out.old.items ++ flat_map line_text
+        (map material_line rows.now)) }
 {
     for row in rows {
         put_material(alloc, out, row)?;
@@ -207,7 +225,8 @@ fn put_material_part(
     out: &mut Vec<u8>,
     rows: &[MaterialRow],
 ) -> Result<(), AllocError>
-    ensures { OnOk result (out.new.items ≡ out.old.items ++ flat_map line_text (material_lines rows.now)) }
+    ensures { OnOk result (out.new.items ≡ out.old.items ++ flat_map line_text
+        (material_lines rows.now)) }
 {
     match rows {
         [] => Ok(()),
@@ -222,7 +241,8 @@ fn put_material_part(
 /// The first word, the number of the file, and the word `points`.
 #[tactic(auto, unfolding(crate::specs::Words::head_word, crate::specs::Words::points_word))]
 fn put_head(alloc: Global, out: &mut Vec<u8>, number: &Dec) -> Result<(), AllocError>
-    ensures { OnOk result (out.new.items ≡ out.old.items ++ flat_map line_text (head_lines number.now)) }
+    ensures { OnOk result (out.new.items ≡ out.old.items ++ flat_map line_text
+        (head_lines number.now)) }
 {
     out.extend_from_slice(b"splinecurves2dv2\n")?;
     put_decimal(alloc, out, number)?;
@@ -230,6 +250,7 @@ fn put_head(alloc: Global, out: &mut Vec<u8>, number: &Dec) -> Result<(), AllocE
     Ok(())
 }
 
+/// The lines of a geometry.
 #[tactic(auto, using(crate::proofs::Texts::texts_of_lines), unfolding(crate::specs::Words::segments_word))]
 fn text_of(alloc: Global, g: &RawGeometry) -> Result<Vec<u8>, AllocError>
     ensures { IfOk result (λ text. text.items ≡ normal_text g.now) }

@@ -54,7 +54,8 @@ impl<'a> Reader<'a> {
     #[tactic(auto, unfolding(crate::specs::Steps::spot_step))]
     pub fn take(&mut self, alloc: Global, at: u64, word: &'a [u8]) -> Result<(), In2dRefusal>
         requires { KnowsNumbers self.old }
-        ensures step { Takes result (step true (draft_of self.old) at word.now) (draft_of self.new) }
+        ensures step { Takes result (step true (draft_of self.old) at word.now)
+            (draft_of self.new) }
         ensures knows { OnOk result (KnowsNumbers self.new) }
     {
         match self.place {
@@ -65,10 +66,12 @@ impl<'a> Reader<'a> {
         }
     }
 
+    /// Takes a word of the head: the first word, the number of the file, or the word `points`.
     #[tactic(auto, unfolding(crate::specs::Steps::head_step, crate::specs::Words::head_word, crate::specs::Words::points_word))]
     fn take_head(&mut self, place: HeadPlace, at: u64, word: &[u8]) -> Result<(), In2dRefusal>
         requires { KnowsNumbers self.old }
-        ensures step { Takes result (head_step (draft_of self.old) place at word.now) (draft_of self.new) }
+        ensures step { Takes result (head_step (draft_of self.old) place at word.now)
+            (draft_of self.new) }
         ensures knows { OnOk result (KnowsNumbers self.new) }
     {
         match place {
@@ -94,10 +97,12 @@ impl<'a> Reader<'a> {
         }
     }
 
+    /// Takes a word of the points.
     #[tactic(auto, unfolding(crate::specs::Steps::point_step))]
     fn take_point(&mut self, place: PointPlace, at: u64, word: &[u8]) -> Result<(), In2dRefusal>
         requires { KnowsNumbers self.old }
-        ensures step { Takes result (point_step true (draft_of self.old) place at word.now) (draft_of self.new) }
+        ensures step { Takes result (point_step true (draft_of self.old) place at word.now)
+            (draft_of self.new) }
         ensures knows { OnOk result (KnowsNumbers self.new) }
     {
         match place {
@@ -132,7 +137,8 @@ impl<'a> Reader<'a> {
     #[tactic(auto, unfolding(crate::specs::Steps::point_flag))]
     fn flag_point(&mut self, row: PointRow, at: u64, word: &[u8]) -> Result<(), In2dRefusal>
         requires { KnowsNumbers self.old }
-        ensures step { Takes result (point_flag (draft_of self.old) row at word.now) (draft_of self.new) }
+        ensures step { Takes result (point_flag (draft_of self.old) row at word.now)
+            (draft_of self.new) }
         ensures knows { OnOk result (KnowsNumbers self.new) }
     {
         let maxh = text::size_after(row.maxh, at, word)?;
@@ -157,7 +163,8 @@ impl<'a> Reader<'a> {
     #[tactic(auto, unfolding(crate::specs::Steps::point_start, crate::specs::Words::segments_word))]
     fn start_point(&mut self, at: u64, word: &[u8]) -> Result<(), In2dRefusal>
         requires { KnowsNumbers self.old }
-        ensures step { Takes result (point_start true (draft_of self.old) at word.now) (draft_of self.new) }
+        ensures step { Takes result (point_start true (draft_of self.old) at word.now)
+            (draft_of self.new) }
         ensures knows { OnOk result (KnowsNumbers self.new) }
     {
         if text::is(word, b"segments") {
@@ -168,10 +175,12 @@ impl<'a> Reader<'a> {
         self.new_point(at, number)
     }
 
+    /// A row of the points begins with this number: TooMany past the limit, NumberTwice where it stood before.
     #[tactic(auto, unfolding(crate::specs::Steps::new_point))]
     fn new_point(&mut self, at: u64, number: u32) -> Result<(), In2dRefusal>
         requires { KnowsNumbers self.old }
-        ensures step { Takes result (new_point true (draft_of self.old) at number) (draft_of self.new) }
+        ensures step { Takes result (new_point true (draft_of self.old) at number)
+            (draft_of self.new) }
         ensures knows { OnOk result (KnowsNumbers self.new) }
     {
         if self.points.len() >= MOST_ROWS {
@@ -184,10 +193,12 @@ impl<'a> Reader<'a> {
         Ok(())
     }
 
+    /// Takes a word of the segments.
     #[tactic(auto, unfolding(crate::specs::Steps::segment_step))]
     fn take_segment(&mut self, place: SegmentPlace, at: u64, word: &[u8]) -> Result<(), In2dRefusal>
         requires { KnowsNumbers self.old }
-        ensures step { Takes result (segment_step true (draft_of self.old) place at word.now) (draft_of self.new) }
+        ensures step { Takes result (segment_step true (draft_of self.old) place at word.now)
+            (draft_of self.new) }
         ensures knows { OnOk result (KnowsNumbers self.new) }
     {
         self.place = Place::Segments(match place {
@@ -216,7 +227,8 @@ impl<'a> Reader<'a> {
     #[tactic(auto, unfolding(crate::specs::Steps::segment_step))]
     fn after_segment(&mut self, row: SegmentRow, at: u64, word: &[u8]) -> Result<(), In2dRefusal>
         requires { KnowsNumbers self.old }
-        ensures step { Takes result (segment_step true (draft_of self.old) (SegmentPlace.End row) at word.now) (draft_of self.new) }
+        ensures step { Takes result (segment_step true (draft_of self.old)
+            (SegmentPlace.End row) at word.now) (draft_of self.new) }
         ensures knows { OnOk result (KnowsNumbers self.new) }
     {
         if text::is_flag(word) {
@@ -230,7 +242,8 @@ impl<'a> Reader<'a> {
     #[tactic(auto, unfolding(crate::specs::Steps::shape_step, crate::specs::Words::two_word, crate::specs::Words::three_word))]
     fn shape(&mut self, left: u32, right: u32, at: u64, word: &[u8]) -> Result<(), In2dRefusal>
         requires { KnowsNumbers self.old }
-        ensures step { Takes result (shape_step (draft_of self.old) left right at word.now) (draft_of self.new) }
+        ensures step { Takes result (shape_step (draft_of self.old) left right at word.now)
+            (draft_of self.new) }
         ensures knows { OnOk result (KnowsNumbers self.new) }
     {
         if text::is(word, b"2") {
@@ -248,7 +261,8 @@ impl<'a> Reader<'a> {
     #[tactic(auto, unfolding(crate::specs::Steps::segment_flag))]
     fn flag_segment(&mut self, row: SegmentRow, at: u64, word: &[u8]) -> Result<(), In2dRefusal>
         requires { KnowsNumbers self.old }
-        ensures step { Takes result (segment_flag (draft_of self.old) row at word.now) (draft_of self.new) }
+        ensures step { Takes result (segment_flag (draft_of self.old) row at word.now)
+            (draft_of self.new) }
         ensures knows { OnOk result (KnowsNumbers self.new) }
     {
         let bc = text::number_after(row.bc, at, word)?;
@@ -273,7 +287,8 @@ impl<'a> Reader<'a> {
     #[tactic(auto, unfolding(crate::specs::Steps::segment_start, crate::specs::Words::materials_word))]
     fn start_segment(&mut self, at: u64, word: &[u8]) -> Result<(), In2dRefusal>
         requires { KnowsNumbers self.old }
-        ensures step { Takes result (segment_start true (draft_of self.old) at word.now) (draft_of self.new) }
+        ensures step { Takes result (segment_start true (draft_of self.old) at word.now)
+            (draft_of self.new) }
         ensures knows { OnOk result (KnowsNumbers self.new) }
     {
         if text::is(word, b"materials") {
@@ -284,10 +299,12 @@ impl<'a> Reader<'a> {
         self.new_segment(left)
     }
 
+    /// A row of the segments begins with this left domain: TooMany past the limit.
     #[tactic(auto, unfolding(crate::specs::Steps::new_segment))]
     fn new_segment(&mut self, left: u32) -> Result<(), In2dRefusal>
         requires { KnowsNumbers self.old }
-        ensures step { Takes result (new_segment true (draft_of self.old) left) (draft_of self.new) }
+        ensures step { Takes result (new_segment true (draft_of self.old) left)
+            (draft_of self.new) }
         ensures knows { OnOk result (KnowsNumbers self.new) }
     {
         if self.segments.len() >= MOST_ROWS {
@@ -297,6 +314,7 @@ impl<'a> Reader<'a> {
         Ok(())
     }
 
+    /// Takes a word of the materials.
     #[tactic(auto, unfolding(crate::specs::Steps::material_step, crate::specs::Steps::material_flag))]
     fn take_material(
         &mut self,
@@ -306,7 +324,8 @@ impl<'a> Reader<'a> {
         word: &'a [u8],
     ) -> Result<(), In2dRefusal>
         requires { KnowsNumbers self.old }
-        ensures step { Takes result (material_step (draft_of self.old) (material_spot place.entry) at word.now) (draft_of self.new) }
+        ensures step { Takes result (material_step (draft_of self.old)
+            (material_spot place.entry) at word.now) (draft_of self.new) }
         ensures knows { OnOk result (KnowsNumbers self.new) }
     {
         match place {
@@ -343,7 +362,8 @@ impl<'a> Reader<'a> {
         maxh: Option<Dec>,
     ) -> Result<(), In2dRefusal>
         requires { KnowsNumbers self.old }
-        ensures ok { OnOk result (draft_of self.new ≡ with_material (draft_of self.old) (record { domain = domain; name = name.now; maxh = maxh })) }
+        ensures ok { OnOk result (draft_of self.new ≡ with_material (draft_of self.old)
+            (record { domain = domain; name = name.now; maxh = maxh })) }
         ensures err { IfErr result (λ e. e ≡ Memory) }
         ensures knows { OnOk result (KnowsNumbers self.new) }
     {
@@ -356,7 +376,8 @@ impl<'a> Reader<'a> {
     #[tactic(auto, unfolding(crate::specs::Steps::material_start))]
     fn start_material(&mut self, at: u64, word: &[u8]) -> Result<(), In2dRefusal>
         requires { KnowsNumbers self.old }
-        ensures step { Takes result (material_start (draft_of self.old) at word.now) (draft_of self.new) }
+        ensures step { Takes result (material_start (draft_of self.old) at word.now)
+            (draft_of self.new) }
         ensures knows { OnOk result (KnowsNumbers self.new) }
     {
         match text::from_one(word, 64) {
@@ -372,7 +393,8 @@ impl<'a> Reader<'a> {
     #[tactic(auto, unfolding(crate::specs::Steps::finish, crate::specs::Steps::finish_spot))]
     fn close(&mut self, alloc: Global, at: u64) -> Result<(), In2dRefusal>
         requires { KnowsNumbers self.old }
-        ensures finish { Takes result (finish (draft_of self.old) at) (whole_raw (draft_of self.new)) }
+        ensures finish { Takes result (finish (draft_of self.old) at)
+            (whole_raw (draft_of self.new)) }
         ensures knows { OnOk result (KnowsNumbers self.new) }
     {
         match self.place {
@@ -401,13 +423,16 @@ impl<'a> Reader<'a> {
         Ok(())
     }
 
+    /// Whether a segment goes from a point to a point.
     fn has_ends(&self, row: SegmentRow) -> bool
         requires { KnowsNumbers self.now }
-        ensures { result ≡ (is_known row.p self.now.points.items && is_known row.q self.now.points.items) }
+        ensures { result ≡ (is_known row.p self.now.points.items
+            && is_known row.q self.now.points.items) }
     {
         self.known.contains(&row.p) && self.known.contains(&row.q)
     }
 
+    /// What has been read, as a geometry.
     fn into_raw(self) -> RawGeometry
         ensures { result ≡ whole_raw (draft_of self.entry) }
     {
@@ -430,6 +455,7 @@ impl<'a> Reader<'a> {
     }
 }
 
+/// A segment without flags.
 fn segment(left: u32, right: u32, p: u32, q: u32) -> SegmentRow
     ensures { result ≡ record { left = left; right = right; p = p; q = q; bc = None; maxh = None } }
 {

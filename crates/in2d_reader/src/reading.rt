@@ -32,7 +32,8 @@ pub fn read_in2d(alloc: Global, bytes: &[u8]) -> Result<RawGeometry, In2dRefusal
     ensures refused { IfErr result (Refuses (words_of bytes.now)) }
 
     // Each text that is refused so is refused, unless memory runs out, and has no other refusal.
-    ensures refused_only { (f : In2dRefusal) → f ≢ In2dRefusal.Memory → Refuses (words_of bytes.now) f
+    ensures refused_only { (f : In2dRefusal) → f ≢ In2dRefusal.Memory
+        → Refuses (words_of bytes.now) f
         → MatchResult result (λ read. ⊥) (λ e. (e ≡ f) ⊎ (e ≡ In2dRefusal.Memory)) }
 
     // What is returned is what reading word by word gives.
@@ -41,6 +42,7 @@ pub fn read_in2d(alloc: Global, bytes: &[u8]) -> Result<RawGeometry, In2dRefusal
     read_words(alloc, bytes)
 }
 
+/// Reads the words one after another.
 #[tactic(auto, unfolding(crate::specs::Steps::geometry_of, crate::specs::Steps::steps))]
 fn read_words(alloc: Global, bytes: &[u8]) -> Result<RawGeometry, In2dRefusal>
     ensures { Gives (λ raw. raw) result (geometry_of (words_of bytes.now)) }

@@ -1,20 +1,26 @@
 -- What the top call promises of words, from what they ask for.
-use Rattle.std.proofs.Common.{◌≡◌, ℕ, List, Some, None, inr, subst, sym, refl, ap}
-use Rattle.std.specs.Prelude.{Option}
+use Rattle.std.proofs.Common.{◌≡◌, ℕ, List, sym, subst, refl, ap, ◌∙◌, inl, inr}
+use Rattle.std.specs.Prelude.{Option, Some}
 use Rattle.folder_io.specs.Causes.{Told, ToldBoth}
 use Rattle.folder_io.specs.Names.{Files}
+use Rattle.folder_io.specs.States.{FolderState, SinkState}
 use Rattle.netmesh_cli.specs.declared.words_fault.WordsFault.{WordsFault}
 use Rattle.netmesh_cli.specs.declared.outcome.Outcome.{Outcome}
-use Rattle.netmesh_cli.specs.declared.outcome.Outcome.TheVariants.{Refused}
+use Rattle.netmesh_cli.specs.declared.outcome.Outcome.TheVariants.{Done, Stuck, Stopped, Good, Bad, Shown, Refused}
 use Rattle.netmesh_cli.specs.declared.outcome.Refusal.{Refusal}
 use Rattle.netmesh_cli.specs.declared.outcome.Refusal.TheVariants.{Words, In2d, Geometry, Rules, Folder, Out, Memory, NotYet}
-use Rattle.netmesh_cli.specs.Commands.{Task, MeshOf, GeomOf, RulesOf, CheckOf, ViewOf, ReplayOf, GenOf, IsCommand, IsFault}
-use Rattle.netmesh_cli.specs.declared.asked.Asked.{Asked}
-use Rattle.netmesh_cli.specs.Words.{MeshNames, mesh_task, task_asked, IsUnbuilt, AskForUnbuilt, WordsRefused}
-use Rattle.netmesh_cli.specs.Top.{IsNotYetOrMemory, IsWordsOrMemory, WordsAnswer, MeshAnswer, MeshExactly, GeomAnswer, GeomExactly, Telling}
-use Rattle.netmesh_cli.specs.Stands.{Keeps}
+use Rattle.netmesh_cli.specs.Commands.{Task, MeshTask, MeshOf, GeomOf, RulesOf, CheckOf, ViewOf, ReplayOf, GenOf, IsCommand, IsFault}
+use Rattle.netmesh_cli.specs.Words.{IsUnbuilt, AskForUnbuilt, WordsRefused}
+use Rattle.netmesh_cli.specs.Causes.{IsUntaken, HasFailed}
+use Rattle.netmesh_cli.specs.Taking.{TakesRefused}
+use Rattle.netmesh_cli.specs.Jobs.{Job, MeshJob, GeomJob, task_of_job, IsBuilt, takes_of, puts_of}
+use Rattle.netmesh_cli.specs.Served.{AreApart, RefusalCause, RefusalStands, Keeps, WrittenBefore, IsAnswer}
+use Rattle.netmesh_cli.specs.Top.{IsNotYetOrMemory, IsWordsOrMemory, IfServed, IfRefused, WordsAnswer, WordsCause, WritesLine, Answers, Exactly, HoldsMesh, Telling}
 use Rattle.netmesh_cli.proofs.Exclusion.{one_fault, never_both, one_command}
-use Rattle.netmesh_cli.proofs.Tops.{fact_told}
+use Rattle.netmesh_cli.proofs.Firsts.{never_first}
+use Rattle.netmesh_cli.proofs.Tolds.{told_all, told_as_before}
+use Rattle.netmesh_cli.proofs.Courses.{keeps_same}
+use Rattle.netmesh_cli.proofs.Tops.{fact_told, mesh_held}
 
 -- ---- words that are refused
 
@@ -49,94 +55,116 @@ not_built words ask Memory refused = tt
 not_built words ask (Rules fault) refused = absurd refused
 not_built words ask (NotYet part) refused = refused.0
 
-pub answer_at_fault : (words : List (List ℕ)) (w0 w1 : Option (List ℕ)) (u : Type 0) (given result : Refusal) (held : Option Files) → WordsRefused words given → Telling w0 w1 u given result → (fault : WordsFault) → IsFault words fault → WordsAnswer (IsWordsOrMemory fault) (Refused result) held held
-answer_at_fault words w0 w1 u given result held refused telling fault is = record { refused = fact_told (IsWordsOrMemory fault) w0 w1 u given result tt telling (at_fault words fault is given refused); held = refl }
+pub answer_at_fault : (words : List (List ℕ)) (s : FolderState) (o0 o1 : SinkState) (given result : Refusal) → WordsRefused words given → Telling o0 o1 given result → (fault : WordsFault) → IsFault words fault → WordsAnswer (IsWordsOrMemory fault) (Refused result) s s
+answer_at_fault words s o0 o1 given result refused telling fault is = record { refused = fact_told (IsWordsOrMemory fault) o0 o1 given result tt telling (at_fault words fault is given refused); held = refl }
 
-pub answer_not_built : (words : List (List ℕ)) (w0 w1 : Option (List ℕ)) (u : Type 0) (given result : Refusal) (held : Option Files) → WordsRefused words given → Telling w0 w1 u given result → AskForUnbuilt words → WordsAnswer (IsNotYetOrMemory 1) (Refused result) held held
-answer_not_built words w0 w1 u given result held refused telling ask = record { refused = fact_told (IsNotYetOrMemory 1) w0 w1 u given result tt telling (not_built words ask given refused); held = refl }
-
--- ---- memory is refused for words that ask for what is built
-
-memory_told : (words : List (List ℕ)) (task : Task) → ¬ IsUnbuilt task → IsCommand words task → (w0 w1 : Option (List ℕ)) (u : Type 0) (given result : Refusal) → WordsRefused words given → Telling w0 w1 u given result → Memory ≡ result
-memory_told words task built asked w0 w1 u given result refused telling = sym (fact_told (λ (r : Refusal). r ≡ Memory) w0 w1 u given result refl telling (memory_alone words task built asked given refused))
-
-held_still : (names : MeshNames) (h : Option Files) → ToldBoth h h (Keeps names)
-held_still names None = refl
-held_still names (Some files) = record { others = λ other a b. refl; unaccepted = λ not. refl; log_first = λ ne. absurd (ne refl) }
-
-still : (h : Option Files) → ToldBoth h h (λ old new. Unit {0})
-still None = refl
-still (Some files) = tt
-
-mesh_memory : (names : MeshNames) (h : Option Files) (w0 w1 : Option (List ℕ)) (failed : List ℕ → Type 0) (untaken : Type 0) → MeshAnswer names (Refused Memory) h h w0 w1 failed untaken
-mesh_memory names h w0 w1 failed untaken = record { ending = tt; meshed = tt; cause = tt; stands = still h; keeps = held_still names h; summary = λ out. absurd cc }
-
-told_all : (h : Option Files) (P : Files → Type 0) → ((files : Files) → P files) → Told h P
-told_all None P all = tt
-told_all (Some files) P all = all files
-
-pub mesh_refused : (words : List (List ℕ)) (names : MeshNames) → IsCommand words (mesh_task names) → (w0 w1 : Option (List ℕ)) (u : Type 0) (given result : Refusal) (h : Option Files) (failed : List ℕ → Type 0) (untaken : Type 0) → WordsRefused words given → Telling w0 w1 u given result → MeshAnswer names (Refused result) h h w0 w1 failed untaken
-mesh_refused words names asked w0 w1 u given result h failed untaken refused telling = subst (λ (r : Refusal). MeshAnswer names (Refused r) h h w0 w1 failed untaken) (memory_told words (mesh_task names) (λ unbuilt. unbuilt refl) asked w0 w1 u given result refused telling) (mesh_memory names h w0 w1 failed untaken)
-
-pub mesh_refused_exactly : (words : List (List ℕ)) (names : MeshNames) → IsCommand words (mesh_task names) → (w0 w1 : Option (List ℕ)) (u : Type 0) (given result : Refusal) (h : Option Files) (failed untaken : Type 0) → WordsRefused words given → Telling w0 w1 u given result → Told h (λ files. MeshExactly names (Refused result) files failed untaken)
-mesh_refused_exactly words names asked w0 w1 u given result h failed untaken refused telling = subst (λ (r : Refusal). Told h (λ files. MeshExactly names (Refused r) files failed untaken)) (memory_told words (mesh_task names) (λ unbuilt. unbuilt refl) asked w0 w1 u given result refused telling)
-    (told_all h _ (λ files. record { text_refused = λ a. tt; map_refused = λ a. tt; map_fault = λ fault a. inr tt; size_refused = λ a. tt; rules_refused = λ a b. tt; rules_not_built = λ a b. tt; complete = λ a b c. tt }))
-
-pub geom_refused : (words : List (List ℕ)) (name : List ℕ) → IsCommand words (GeomOf name) → (w0 w1 : Option (List ℕ)) (u : Type 0) (given result : Refusal) (h : Option Files) (failed : List ℕ → Type 0) (untaken : Type 0) → WordsRefused words given → Telling w0 w1 u given result → GeomAnswer name (Refused result) h h w0 w1 failed untaken
-geom_refused words name asked w0 w1 u given result h failed untaken refused telling = subst (λ (r : Refusal). GeomAnswer name (Refused r) h h w0 w1 failed untaken) (memory_told words (GeomOf name) (λ unbuilt. unbuilt) asked w0 w1 u given result refused telling)
-    (record { ending = tt; shown = tt; held = refl; cause = tt; answer = λ out. absurd cc })
-
-pub geom_refused_exactly : (words : List (List ℕ)) (name : List ℕ) → IsCommand words (GeomOf name) → (w0 w1 : Option (List ℕ)) (u : Type 0) (given result : Refusal) (h : Option Files) (failed untaken : Type 0) → WordsRefused words given → Telling w0 w1 u given result → Told h (λ files. GeomExactly name (Refused result) files failed untaken)
-geom_refused_exactly words name asked w0 w1 u given result h failed untaken refused telling = subst (λ (r : Refusal). Told h (λ files. GeomExactly name (Refused r) files failed untaken)) (memory_told words (GeomOf name) (λ unbuilt. unbuilt) asked w0 w1 u given result refused telling)
-    (told_all h _ (λ files. record { text_refused = λ a. tt; map_refused = λ a. tt; map_fault = λ fault a. inr tt; complete = λ a b c. tt }))
+pub answer_not_built : (words : List (List ℕ)) (s : FolderState) (o0 o1 : SinkState) (given result : Refusal) → WordsRefused words given → Telling o0 o1 given result → AskForUnbuilt words → WordsAnswer (IsNotYetOrMemory 1) (Refused result) s s
+answer_not_built words s o0 o1 given result refused telling ask = record { refused = fact_told (IsNotYetOrMemory 1) o0 o1 given result tt telling (not_built words ask given refused); held = refl }
 
 -- ---- words that ask for what is built
-
-pub asked_is : (words : List (List ℕ)) (asked found : Asked) → asked ≡ found → IsCommand words (task_asked asked) → IsCommand words (task_asked found)
-asked_is words asked found same command = subst (λ (a : Asked). IsCommand words (task_asked a)) same command
-
-pub mesh_is_built : (names : MeshNames) → ¬ IsUnbuilt (mesh_task names)
-mesh_is_built names unbuilt = unbuilt refl
 
 -- a built task is the only one that its words ask for
 pub not_unbuilt : (words : List (List ℕ)) (task : Task) → ¬ IsUnbuilt task → IsCommand words task → ¬ AskForUnbuilt words
 not_unbuilt words task built asked ask = built (subst IsUnbuilt (one_command words ask.task task ask.command asked) ask.unbuilt)
 
-names_in : MeshNames → Task → MeshNames
-names_in other (MeshOf task) = record { geometry = task.geometry; rules = task.rules; mesh = task.mesh; log = task.log }
-names_in other (GeomOf _) = other
-names_in other (RulesOf _) = other
-names_in other (CheckOf _ _) = other
-names_in other (ViewOf _ _ _) = other
-names_in other (ReplayOf _ _ _) = other
-names_in other (GenOf _ _) = other
+-- the verbs that are built are none of those that aren't
+pub job_is_built : (job : Job) → IsBuilt job → ¬ IsUnbuilt (task_of_job job)
+job_is_built (MeshJob task) built unbuilt = unbuilt built
+job_is_built (GeomJob geometry) built unbuilt = unbuilt
 
-one_mesh : (words : List (List ℕ)) (names others : MeshNames) → IsCommand words (mesh_task names) → IsCommand words (mesh_task others) → names ≡ others
-unfolding names_in
-one_mesh words names others first second = ap (names_in names) (one_command words (mesh_task names) (mesh_task others) first second)
+-- a task is asked for by one job
+job_in : Job → Task → Job
+job_in other (MeshOf task) = MeshJob task
+job_in other (GeomOf name) = GeomJob name
+job_in other (RulesOf _) = other
+job_in other (CheckOf _ _) = other
+job_in other (ViewOf _ _ _) = other
+job_in other (ReplayOf _ _ _) = other
+job_in other (GenOf _ _) = other
 
-name_in : List ℕ → Task → List ℕ
-name_in other (MeshOf _) = other
-name_in other (GeomOf name) = name
-name_in other (RulesOf _) = other
-name_in other (CheckOf _ _) = other
-name_in other (ViewOf _ _ _) = other
-name_in other (ReplayOf _ _ _) = other
-name_in other (GenOf _ _) = other
+job_again : (other job : Job) → job_in other (task_of_job job) ≡ job
+unfolding job_in
+job_again other (MeshJob task) = refl
+job_again other (GeomJob geometry) = refl
 
-one_geom : (words : List (List ℕ)) (name other : List ℕ) → IsCommand words (GeomOf name) → IsCommand words (GeomOf other) → name ≡ other
-unfolding name_in
-one_geom words name other first second = ap (name_in name) (one_command words (GeomOf name) (GeomOf other) first second)
+pub one_job : (words : List (List ℕ)) (job other : Job) → IsCommand words (task_of_job job) → IsCommand words (task_of_job other) → job ≡ other
+one_job words job other first second = sym (job_again job job) ∙ ap (job_in job) (one_command words (task_of_job job) (task_of_job other) first second) ∙ job_again job other
 
--- the names that the call found are those of any reading of the words
-pub mesh_answers : (words : List (List ℕ)) (names : MeshNames) → IsCommand words (mesh_task names) → (o : Outcome) (h0 h1 : Option Files) (w0 w1 : Option (List ℕ)) (failed : List ℕ → Type 0) (untaken : Type 0) → MeshAnswer names o h0 h1 w0 w1 failed untaken → (others : MeshNames) → IsCommand words (mesh_task others) → MeshAnswer others o h0 h1 w0 w1 failed untaken
-mesh_answers words names asked o h0 h1 w0 w1 failed untaken answer others again = subst (λ (n : MeshNames). MeshAnswer n o h0 h1 w0 w1 failed untaken) (one_mesh words names others asked again) answer
+-- `mesh` has two names for what it puts
+pub job_apart : (words : List (List ℕ)) (job : Job) → IsCommand words (task_of_job job) → AreApart (puts_of job)
+job_apart words (MeshJob task) command = (λ listed. elim listed [ inl same ↦ command.3.2 (sym same) | inr none ↦ none ], ((λ none. none), tt))
+job_apart words (GeomJob geometry) command = tt
 
-pub mesh_exactlies : (words : List (List ℕ)) (names : MeshNames) → IsCommand words (mesh_task names) → (o : Outcome) (h0 : Option Files) (failed untaken : Type 0) → Told h0 (λ files. MeshExactly names o files failed untaken) → (others : MeshNames) → IsCommand words (mesh_task others) → Told h0 (λ files. MeshExactly others o files failed untaken)
-mesh_exactlies words names asked o h0 failed untaken told others again = subst (λ (n : MeshNames). Told h0 (λ files. MeshExactly n o files failed untaken)) (one_mesh words names others asked again) told
+-- ---- memory is refused for words that ask for what is built
 
-pub geom_answers : (words : List (List ℕ)) (name : List ℕ) → IsCommand words (GeomOf name) → (o : Outcome) (h0 h1 : Option Files) (w0 w1 : Option (List ℕ)) (failed : List ℕ → Type 0) (untaken : Type 0) → GeomAnswer name o h0 h1 w0 w1 failed untaken → (other : List ℕ) → IsCommand words (GeomOf other) → GeomAnswer other o h0 h1 w0 w1 failed untaken
-geom_answers words name asked o h0 h1 w0 w1 failed untaken answer other again = subst (λ (n : List ℕ). GeomAnswer n o h0 h1 w0 w1 failed untaken) (one_geom words name other asked again) answer
+memory_told : (words : List (List ℕ)) (job : Job) → IsBuilt job → IsCommand words (task_of_job job) → (o0 o1 : SinkState) (given result : Refusal) → WordsRefused words given → Telling o0 o1 given result → Memory ≡ result
+memory_told words job built asked o0 o1 given result refused telling = sym (fact_told (λ (r : Refusal). r ≡ Memory) o0 o1 given result refl telling (memory_alone words (task_of_job job) (job_is_built job built) asked given refused))
 
-pub geom_exactlies : (words : List (List ℕ)) (name : List ℕ) → IsCommand words (GeomOf name) → (o : Outcome) (h0 : Option Files) (failed untaken : Type 0) → Told h0 (λ files. GeomExactly name o files failed untaken) → (other : List ℕ) → IsCommand words (GeomOf other) → Told h0 (λ files. GeomExactly other o files failed untaken)
-geom_exactlies words name asked o h0 failed untaken told other again = subst (λ (n : List ℕ). Told h0 (λ files. GeomExactly n o files failed untaken)) (one_geom words name other asked again) told
+memory_answers : (job : Job) (s : FolderState) (o0 o1 : SinkState) → Answers job (Refused Memory) s s o0 o1
+memory_answers job s o0 o1 = record {
+  ending = tt;
+  served = tt;
+  cause = tt;
+  stands = told_as_before s.held s.held (λ old new. RefusalStands job old new Memory) refl (λ files. tt);
+  keeps = told_as_before s.held s.held (Keeps job) refl (keeps_same job);
+  puts_nothing = λ _. refl;
+  untaken = λ out. absurd cc;
+}
+
+pub refused_answers : (words : List (List ℕ)) (s : FolderState) (o0 o1 : SinkState) (given result : Refusal) → WordsRefused words given → Telling o0 o1 given result → (job : Job) → IsBuilt job → IsCommand words (task_of_job job) → Answers job (Refused result) s s o0 o1
+refused_answers words s o0 o1 given result refused telling job built asked = subst (λ (r : Refusal). Answers job (Refused r) s s o0 o1) (memory_told words job built asked o0 o1 given result refused telling) (memory_answers job s o0 o1)
+
+memory_exactly : (job : Job) (failed u : Type 0) (files : Files) → Exactly job (Refused Memory) failed u files
+memory_exactly job failed u files = record { unaccepted = λ _. inr tt; refused = λ _ _. inr tt; complete = λ _ _ _. tt }
+
+pub refused_words_exactly : (words : List (List ℕ)) (h : Option Files) (failed u : Type 0) (o0 o1 : SinkState) (given result : Refusal) → WordsRefused words given → Telling o0 o1 given result → (job : Job) → IsBuilt job → IsCommand words (task_of_job job) → Told h (Exactly job (Refused result) failed u)
+refused_words_exactly words h failed u o0 o1 given result refused telling job built asked = told_all h (Exactly job (Refused result) failed u)
+    (λ files _. subst (λ (r : Refusal). Exactly job (Refused r) failed u files) (memory_told words job built asked o0 o1 given result refused telling) (memory_exactly job failed u files))
+
+-- nothing was written before the words were told
+pub unwritten_words : (words : List (List ℕ)) (w : Option (List ℕ)) (given : Refusal) → WordsRefused words given → WrittenBefore (λ _. ⊥) w w given
+unwritten_words words w (Words fault) refused = refl
+unwritten_words words w (In2d fault) refused = refl
+unwritten_words words w (Geometry fault) refused = refl
+unwritten_words words w (Rules fault) refused = refl
+unwritten_words words w (Folder name number) refused = refl
+unwritten_words words w Out refused = absurd refused
+unwritten_words words w Memory refused = refl
+unwritten_words words w (NotYet part) refused = refl
+
+-- a verb that is built is refused neither for its words nor as one that isn't
+not_first : (job : Job) (s0 s1 : FolderState) (part : ℕ) → TakesRefused s0 s1 (NotYet part) (takes_of job) → ¬ (part ≡ 1)
+not_first job s0 s1 part refused e = never_first s0 s1 (takes_of job) (subst (λ (n : ℕ). TakesRefused s0 s1 (NotYet n) (takes_of job)) e refused)
+
+cause_of_words : (words : List (List ℕ)) (job : Job) (s0 s1 : FolderState) (u : Type 0) (r : Refusal) → RefusalCause job s0 s1 u r → WordsCause words r
+cause_of_words words job s0 s1 u (Words fault) cause = absurd cause
+cause_of_words words job s0 s1 u (In2d fault) cause = tt
+cause_of_words words job s0 s1 u (Geometry fault) cause = tt
+cause_of_words words job s0 s1 u (Rules fault) cause = tt
+cause_of_words words job s0 s1 u (Folder name number) cause = tt
+cause_of_words words job s0 s1 u Out cause = tt
+cause_of_words words job s0 s1 u Memory cause = tt
+cause_of_words words job s0 s1 u (NotYet part) cause = λ e. absurd (not_first job s0 s1 part cause e)
+
+pub no_words_cause : (words : List (List ℕ)) (job : Job) (s0 s1 : FolderState) (o0 o1 : SinkState) (outcome : Outcome) → Answers job outcome s0 s1 o0 o1 → IfRefused outcome (WordsCause words)
+no_words_cause words job s0 s1 o0 o1 outcome answers = go outcome answers.cause
+  where
+    go : (o : Outcome) → IfRefused o (RefusalCause job s0 s1 (IsUntaken o0 o1)) → IfRefused o (WordsCause words)
+    go Done cause = tt
+    go Stuck cause = tt
+    go Stopped cause = tt
+    go Good cause = tt
+    go Bad cause = tt
+    go Shown cause = tt
+    go (Refused r) cause = cause_of_words words job s0 s1 (IsUntaken o0 o1) r cause
+
+-- ---- the job that the call found is that of any reading of the words
+
+pub other_answers : (words : List (List ℕ)) (job : Job) → IsCommand words (task_of_job job) → (outcome : Outcome) (s0 s1 : FolderState) (o0 o1 : SinkState) → Answers job outcome s0 s1 o0 o1 → (other : Job) → IsBuilt other → IsCommand words (task_of_job other) → Answers other outcome s0 s1 o0 o1
+other_answers words job asked outcome s0 s1 o0 o1 answers other built again = subst (λ (j : Job). Answers j outcome s0 s1 o0 o1) (one_job words job other asked again) answers
+
+pub other_exactly : (words : List (List ℕ)) (job : Job) → IsCommand words (task_of_job job) → (outcome : Outcome) (h : Option Files) (failed u : Type 0) → Told h (Exactly job outcome failed u) → (other : Job) → IsBuilt other → IsCommand words (task_of_job other) → Told h (Exactly other outcome failed u)
+other_exactly words job asked outcome h failed u told other built again = subst (λ (j : Job). Told h (Exactly j outcome failed u)) (one_job words job other asked again) told
+
+pub other_mesh : (words : List (List ℕ)) (job : Job) → IsCommand words (task_of_job job) → (outcome : Outcome) (s0 s1 : FolderState) (o0 o1 : SinkState) → Answers job outcome s0 s1 o0 o1 → (task : MeshTask) → IsBuilt (MeshJob task) → IsCommand words (MeshOf task) → IfServed outcome (λ served. ToldBoth s0.held s1.held (HoldsMesh task served o0.written o1.written))
+other_mesh words job asked outcome s0 s1 o0 o1 answers task built again = mesh_held task outcome s0 s1 o0 o1 (other_answers words job asked outcome s0 s1 o0 o1 answers (MeshJob task) built again)

@@ -20,11 +20,11 @@ use Rattle.clap.specs.declared.parser.matches.ValueSource.TheVariants.{CommandLi
 use Rattle.netmesh_cli.specs.declared.settings.Setting.{Setting}
 use Rattle.netmesh_cli.specs.declared.settings.Setting.TheVariants.{Maxh, Grading, Class, Steps}
 use Rattle.netmesh_cli.specs.CommandLine.{Reads, AtEnd, PlacesAlone, APlace, TwoWords, OneWord, setting_word, Given, word_given, with_word, nothing_given}
-use Rattle.netmesh_cli.specs.Reading.{longer, halves, halves_from, halves_sort, after_dash, after_dashes, WordSort, PlainWord, Dashes, Before, With, Other, word_sort, is_plain_sort, set_called, with_place, read_word, read_value, reading}
+use Rattle.netmesh_cli.specs.WordsRead.{longer, halves, halves_from, halves_sort, after_dash, after_dashes, WordSort, PlainWord, Dashes, Before, With, Other, word_sort, is_plain_sort, set_called, with_place, read_word, read_value, reading}
 use Rattle.netmesh_cli.specs.Asks.{place_word}
 use Rattle.netmesh_cli.proofs.Uses.{Uses, row, value_for, has_is, given_is, none_without, none_added, same_text, value_added, value_kept}
 use Rattle.netmesh_cli.proofs.Tables.{slot, place, flag, leaf, Table, place_no_place, place_no_setting, setting_no_place}
-use Rattle.netmesh_cli.proofs.Readings.{mapped, chained, some_of, none_some, sets_first, set_free, reads_from}
+use Rattle.netmesh_cli.proofs.WordsRead.{mapped, chained, some_of, none_some, sets_first, set_free, reads_from}
 
 -- ---- one use of an argument with one value
 
@@ -371,7 +371,6 @@ module _ (rs : List Rule) (n : ℕ) (opts : Bool) (t : Table rs n opts) where
 
   abbrev pub rows_end : Walk → List Text → List Row
   rows_end w words = finished rs (fold (walked rs []) w words).held
-
 
   rest_cons : (w : Walk) (word : Text) (words : List Text) → rest w (word ∷ words) ≡ or_else (turn_fault (leaf rs) [] w word) (rest (walked rs [] w word) words)
   unfolding walk_fault

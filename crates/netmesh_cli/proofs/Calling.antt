@@ -7,10 +7,10 @@ use Rattle.netmesh_cli.specs.declared.command.Verb.TheVariants as verbs
 use Rattle.netmesh_cli.specs.declared.command.Command.{Command}
 use Rattle.netmesh_cli.specs.declared.command.MeshOptions.{MeshOptions}
 use Rattle.netmesh_cli.specs.CommandLine.{Given, nothing_given}
-use Rattle.netmesh_cli.specs.Reading.{reading}
+use Rattle.netmesh_cli.specs.WordsRead.{reading}
 use Rattle.netmesh_cli.specs.Forms.{HasNot, HasNotAlone}
 use Rattle.netmesh_cli.specs.Commands.{verb_word, place_count, MayBeGiven, IsForm, Task, MeshOf, GeomOf, RulesOf, CheckOf, ViewOf, ReplayOf, GenOf, verb_of, IsWholeFrom, AreOptions, StandFor, IsFaultOf, IsCommandOf, IsFault, IsCommand, task_of}
-use Rattle.netmesh_cli.proofs.Readings.{reads_from, read_again}
+use Rattle.netmesh_cli.proofs.WordsRead.{reads_from, read_again}
 
 abbrev Words : Type 0
 Words = List (List ℕ)

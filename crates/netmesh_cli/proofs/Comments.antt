@@ -16,7 +16,7 @@ use Rattle.in2d_reader.proofs.Printed.{is_again}
 use Rattle.in2d_reader.proofs.Texts.{flat_map_both}
 use Rattle.geom_check.specs.declared.kinds.Domain.{Domain}
 use Rattle.geom_check.specs.Geometry.{PlanarMap}
-use Rattle.netmesh_cli.specs.Drawn.{double_area, shift_line, domain_line, drawn_text}
+use Rattle.netmesh_cli.specs.Shown.{double_area, shift_line, domain_line, shown_text}
 
 -- ---- bytes without a line feed
 
@@ -203,14 +203,14 @@ normal_end raw = lines_end (head_word ∷ []) ((decimal_text raw.number ∷ []) 
 normal_again : (raw : RawGeometry) → CanPrint raw → Derives (words_of (normal_text raw)) raw
 normal_again raw can = let printed : Result (List ℕ) (List ℕ) = Ok (normal_text raw) in is_again (λ text. text) printed raw can refl
 
-drawn_words : (raw : RawGeometry) (g : PlanarMap) → words_of (drawn_text raw g) ≡ words_of (normal_text raw)
-drawn_words raw g =
+shown_words : (raw : RawGeometry) (g : PlanarMap) → words_of (shown_text raw g) ≡ words_of (normal_text raw)
+shown_words raw g =
     let end = normal_end raw in
     let notes = notes_of g in
     let comments : shift_line g ++ flat_map (domain_line g) g.domains ≡ spelling (note_parts notes) = comments_are g ∙ sym (notes_spelled notes) in
-    let text : drawn_text raw g ≡ end.0 ++ (10 ∷ spelling (note_parts notes)) = append_assoc (normal_text raw) (shift_line g) (flat_map (domain_line g) g.domains) ∙ ap (λ (t : List ℕ). normal_text raw ++ t) comments ∙ ap (λ (t : List ℕ). t ++ spelling (note_parts notes)) end.1 ∙ append_assoc end.0 (10 ∷ []) (spelling (note_parts notes)) in
-    same_words (drawn_text raw g) end.0 (note_parts notes) text (notes_fit notes (notes_no_feed g)) (notes_run notes) ∙ ap words_of (sym end.1)
+    let text : shown_text raw g ≡ end.0 ++ (10 ∷ spelling (note_parts notes)) = append_assoc (normal_text raw) (shift_line g) (flat_map (domain_line g) g.domains) ∙ ap (λ (t : List ℕ). normal_text raw ++ t) comments ∙ ap (λ (t : List ℕ). t ++ spelling (note_parts notes)) end.1 ∙ append_assoc end.0 (10 ∷ []) (spelling (note_parts notes)) in
+    same_words (shown_text raw g) end.0 (note_parts notes) text (notes_fit notes (notes_no_feed g)) (notes_run notes) ∙ ap words_of (sym end.1)
 
 -- what `geom` writes is derived again
-pub again : (raw : RawGeometry) (g : PlanarMap) → CanPrint raw → Derives (words_of (drawn_text raw g)) raw
-again raw g can = subst (λ (words : List Word). Derives words raw) (sym (drawn_words raw g)) (normal_again raw can)
+pub again : (raw : RawGeometry) (g : PlanarMap) → CanPrint raw → Derives (words_of (shown_text raw g)) raw
+again raw g can = subst (λ (words : List Word). Derives words raw) (sym (shown_words raw g)) (normal_again raw can)

@@ -1,7 +1,8 @@
 -- How the run of an accepted geometry by no rule ends: stuck, since a domain is named, and its front is its boundary.
-use Rattle.std.proofs.Common.{◌≡◌, ◌≢◌, ℕ, zero, suc, ◌+◌, ◌<◌, ◌==◌, Bool, true, false, not, ◌||◌, ◌&&◌, nat_eq, List, [], ◌∷◌, map, length, slice_index_or, if◌then◌else◌, inl, inr, sym, subst, refl, ap, ◌∙◌, arith}
-use Rattle.std.specs.Prelude.{ℤ}
-use Rattle.std.specs.List.{list_any}
+use Rattle.std.proofs.Common.{◌≡◌, ◌≢◌, ℕ, zero, suc, ◌+◌, ◌<◌, ◌==◌, Bool, true, false, not, ◌||◌, ◌&&◌, nat_eq, List, [], ◌∷◌, ◌++◌, map, length, slice_index_or, if◌then◌else◌, inl, inr, sym, subst, refl, ap, ◌∙◌, arith}
+use Rattle.std.specs.Prelude.{ℤ, Option, None, Some}
+use Rattle.std.specs.List.{list_any, flat_map}
+use Rattle.std.proofs.lemmas.List.{append_assoc, length_push}
 use Rattle.std.proofs.lemmas.Bool.{cases_eq, or_right}
 use Rattle.std.proofs.lemmas.Bool.Decides.{nat_tests}
 use Rattle.grid_geom.specs.declared.Point.{Point}
@@ -11,17 +12,21 @@ use Rattle.in2d_reader.specs.declared.geometry.SegmentRow.{SegmentRow}
 use Rattle.in2d_reader.specs.declared.geometry.RawGeometry.{RawGeometry}
 use Rattle.geom_check.specs.declared.kinds.Segment.{Segment}
 use Rattle.geom_check.specs.Accepted.{NamesDomain}
-use Rattle.geom_check.specs.Boundary.{boundary, edge_of, back, with_edge}
+use Rattle.geom_check.specs.Boundary.{point_at}
 use Rattle.geom_check.specs.Placed.{segments_from}
 use Rattle.geom_check.specs.Geometry.{PlanarMap, IsGeometryOf}
 use Rattle.mesh_run.specs.declared.End.TheVariants.{Done, Stuck, Stopped}
-use Rattle.mesh_run.specs.Boundary.{whole_pieces}
+use Rattle.size_field.specs.declared.cutting.TheConstants.{MOST_HALVINGS}
+use Rattle.size_field.specs.Cutting.{parts, on_both_sides, cut_at, bound, parts_of, piece_of, pieces_from, pieces_of}
+use Rattle.size_field.proofs.Bounds.{turned_by, of_segment, segment_after, boundary_append}
+use Rattle.mesh_run.specs.declared.Options.{Options}
+use Rattle.mesh_run.specs.Boundary.{piece_boundary}
 use Rattle.mesh_run.specs.Opening.{end_of_front}
 use Rattle.geom_check.specs.Domains.{domain_numbers, sides_of}
 use Rattle.mesh_run.specs.Whole.{is_stopped, is_stuck}
-use Rattle.mesh_run.proofs.Bounded.{front_is_boundary, whole_boundary}
+use Rattle.mesh_run.proofs.Bounded.{front_is_boundary}
 use Rattle.geom_check.proofs.DomainNumbers.{numbers_named}
-use Rattle.netmesh_cli.specs.Accepted.{run_of}
+use Rattle.netmesh_cli.specs.Run.{MeshInput, run_options, run_of}
 use Rattle.netmesh_cli.proofs.Works.{run_in}
 
 -- ---- a domain that is named has a boundary
@@ -29,17 +34,53 @@ use Rattle.netmesh_cli.proofs.Works.{run_in}
 same_test : (d n : ℕ) → nat_eq d n ≡ (n == d)
 same_test d n = grind (arith, nat_tests)
 
--- a side with the domain gives an edge
-edge_of_side : (e f : Edge) (b c x y : Bool) → x ≡ b → y ≡ c → (rest : List Edge) (more : Bool) → (more ≡ true → rest ≢ []) → (x || (y || more)) ≡ true → with_edge b e (with_edge c f rest) ≢ []
-edge_of_side e f true c x y p q rest more later named none = absurd (cc)
-edge_of_side e f false true x y p q rest more later named none = absurd (cc)
-edge_of_side e f false false true y p q rest more later named none = absurd (cc)
-edge_of_side e f false false false true p q rest more later named none = absurd (cc)
-edge_of_side e f false false false false p q rest more later named none = later named none
+front_none : (xs ys : List Edge) → xs ++ ys ≡ [] → (xs ≡ []) × (ys ≡ [])
+front_none [] ys e = (refl, e)
+front_none (x ∷ xs) ys e = absurd (cc)
 
-some_edge : (points : List Point) (d : ℕ) (ss : List Segment) → list_any (nat_eq d) (sides_of ss) ≡ true → boundary points d ss ≢ []
-some_edge points d [] named none = absurd (cc)
-some_edge points d (s ∷ ss) named none = edge_of_side (edge_of points s) (back (edge_of points s)) (s.left == d) (s.right == d) (nat_eq d s.left) (nat_eq d s.right) (same_test d s.left) (same_test d s.right) (boundary points d ss) (list_any (nat_eq d) (sides_of ss)) (some_edge points d ss) named none
+-- a segment has a piece, however it is cut
+some_part : (bound : Point → ℕ) (n : ℕ) (a b : Point) → parts bound n a b ≢ []
+unfolding parts
+some_part bound zero a b none = absurd (cc)
+some_part bound (suc n) a b none = go (some_part bound n a) (cut_at bound a b) none
+  where
+    go : ((m : Point) → parts bound n a m ≢ []) → (m : Option Point) → on_both_sides (parts bound n) a b m ≢ []
+    go more None e = absurd (cc)
+    go more (Some m) e = more m (front_none (parts bound n a m) (parts bound n m b) e).0
+
+-- an edge that gives nothing has the domain on neither side
+neither : (l r : Bool) (e : Edge) → turned_by l r e ≡ [] → (l ≡ false) × (r ≡ false)
+neither true r e none = absurd (cc)
+neither false true e none = absurd (cc)
+neither false false e none = (refl, refl)
+
+all_neither : (l r : Bool) (es : List Edge) → es ≢ [] → flat_map (turned_by l r) es ≡ [] → (l ≡ false) × (r ≡ false)
+all_neither l r [] some none = absurd (some refl)
+all_neither l r (e ∷ es) some none = neither l r e (front_none (turned_by l r e) (flat_map (turned_by l r) es) none).0
+
+more_named : (x y more : Bool) → x ≡ false → y ≡ false → (x || (y || more)) ≡ true → more ≡ true
+more_named true y more e f named = absurd (cc)
+more_named false true more e f named = absurd (cc)
+more_named false false more e f named = named
+
+-- where a side of a segment has the domain, its pieces do
+cut_some : (d : ℕ) (cut : Segment → List Edge) → ((s : Segment) → cut s ≢ []) → (all before ss : List Segment) → all ≡ before ++ ss → list_any (nat_eq d) (sides_of ss) ≡ true → piece_boundary d all (pieces_from cut (length before + 1) ss) ≢ []
+cut_some d cut some all before [] h named none = absurd (cc)
+cut_some d cut some all before (s ∷ ss) h named none =
+    let n : ℕ = length before + 1 in
+    let parts_none = front_none (piece_boundary d all (map (piece_of n) (cut s))) (piece_boundary d all (pieces_from cut (n + 1) ss)) (sym (boundary_append d all (map (piece_of n) (cut s)) (pieces_from cut (n + 1) ss)) ∙ none) in
+    let here : flat_map (turned_by (s.left == d) (s.right == d)) (cut s) ≡ [] = sym (of_segment d all s n (cut s) (λ a b. segment_after all before s ss a b h)) ∙ parts_none.0 in
+    let sides = all_neither (s.left == d) (s.right == d) (cut s) (some s) here in
+    let later = more_named (nat_eq d s.left) (nat_eq d s.right) (list_any (nat_eq d) (sides_of ss)) (same_test d s.left ∙ sides.0) (same_test d s.right ∙ sides.1) named in
+    cut_some d cut some all (before ++ s ∷ []) ss (h ∙ sym (append_assoc before (s ∷ []) ss)) later
+    (ap (λ (k : ℕ). piece_boundary d all (pieces_from cut (k + 1) ss)) (length_push before s) ∙ parts_none.1)
+
+-- the boundary of a domain in pieces
+abbrev edges_in : PlanarMap → Options → ℕ → List Edge
+edges_in g o d = piece_boundary d g.segments (pieces_of g o.greatest o.grading)
+
+some_edge : (g : PlanarMap) (o : Options) (d : ℕ) → list_any (nat_eq d) (sides_of g.segments) ≡ true → edges_in g o d ≢ []
+some_edge g o d named = cut_some d (parts_of g o.greatest o.grading) (λ s. some_part (bound g o.greatest o.grading s) MOST_HALVINGS (point_at g.points s.p) (point_at g.points s.q)) g.segments [] g.segments refl named
 
 -- ---- the ends of domains
 
@@ -52,12 +93,12 @@ never_stopped : (front : List (ℕ × ℕ × ℕ)) → is_stopped (end_of_front 
 never_stopped [] = refl
 never_stopped (line ∷ lines) = refl
 
-no_boundary : (g : PlanarMap) (d : ℕ) → is_stuck (run_in g d).end ≡ false → boundary g.points d g.segments ≡ []
-no_boundary g d e = sym (front_is_boundary d g.segments (whole_pieces g.points g.segments) ∙ whole_boundary d g.points g.segments) ∙ empty_front _ (run_in g d).front e
+no_boundary : (g : PlanarMap) (o : Options) (d : ℕ) → is_stuck (run_in g o d).end ≡ false → edges_in g o d ≡ []
+no_boundary g o d e = sym (front_is_boundary d g.segments (pieces_of g o.greatest o.grading)) ∙ empty_front _ (run_in g o d).front e
 
-none_stopped : (g : PlanarMap) (ds : List ℕ) → list_any (λ r. is_stopped r.end) (map (run_in g) ds) ≡ false
-none_stopped g [] = refl
-none_stopped g (d ∷ ds) = ap (λ (b : Bool). b || list_any (λ r. is_stopped r.end) (map (run_in g) ds)) (never_stopped (run_in g d).front) ∙ none_stopped g ds
+none_stopped : (g : PlanarMap) (o : Options) (ds : List ℕ) → list_any (λ r. is_stopped r.end) (map (run_in g o) ds) ≡ false
+none_stopped g o [] = refl
+none_stopped g o (d ∷ ds) = ap (λ (b : Bool). b || list_any (λ r. is_stopped r.end) (map (run_in g o) ds)) (never_stopped (run_in g o d).front) ∙ none_stopped g o ds
 
 is_first : (b more : Bool) → b ≢ false → (b || more) ≡ true
 is_first true more h = refl
@@ -67,11 +108,11 @@ later_one : (x more : Bool) → x ≡ false → (x || more) ≡ true → more �
 later_one true more e h = absurd (cc)
 later_one false more e h = h
 
-some_stuck : (g : PlanarMap) (ds : List ℕ) (d : ℕ) → list_any (nat_eq d) ds ≡ true → boundary g.points d g.segments ≢ [] → list_any (λ r. is_stuck r.end) (map (run_in g) ds) ≡ true
-some_stuck g [] d named some = absurd (cc)
-some_stuck g (n ∷ ds) d named some = elim (cases_eq d n) [
-  | inl same ↦ is_first _ _ (λ e. some (subst (λ (m : ℕ). boundary g.points m g.segments ≡ []) (sym same) (no_boundary g n e)))
-  | inr other ↦ or_right (is_stuck (run_in g n).end) _ (some_stuck g ds d (later_one (nat_eq d n) _ (differ d n other) named) some)
+some_stuck : (g : PlanarMap) (o : Options) (ds : List ℕ) (d : ℕ) → list_any (nat_eq d) ds ≡ true → edges_in g o d ≢ [] → list_any (λ r. is_stuck r.end) (map (run_in g o) ds) ≡ true
+some_stuck g o [] d named some = absurd (cc)
+some_stuck g o (n ∷ ds) d named some = elim (cases_eq d n) [
+  | inl same ↦ is_first _ _ (λ e. some (subst (λ (m : ℕ). edges_in g o m ≡ []) (sym same) (no_boundary g o n e)))
+  | inr other ↦ or_right (is_stuck (run_in g o n).end) _ (some_stuck g o ds d (later_one (nat_eq d n) _ (differ d n other) named) some)
 ]
   where
     differ : (d n : ℕ) → d ≢ n → nat_eq d n ≡ false
@@ -114,9 +155,11 @@ among_numbers ss d positive named = numbers_named ss d ∙ both (nat_eq d 0) _ (
 ended : (a b : Bool) → a ≡ false → b ≡ true → (if a then Stopped else (if b then Stuck else Done)) ≡ Stuck
 ended a b e h = rw (e, h) refl
 
-pub accepted_stuck : (raw : RawGeometry) (g : PlanarMap) → IsGeometryOf raw g → (run_of g).end ≡ Stuck
-accepted_stuck raw g is =
+pub accepted_stuck : (raw : RawGeometry) (input : MeshInput) → IsGeometryOf raw input.geometry → (run_of input).end ≡ Stuck
+accepted_stuck raw input is =
+    let g = input.geometry in
     let some = is.accepted.domain in
     let of_file = named_at g.shift raw.points 1 raw.segments some.0 some.1 some.2 some.3 some.4 in
     let found : IsNamed g.segments = subst IsNamed (sym is.segments) of_file in
-    ended _ _ (none_stopped g (domain_numbers g.segments)) (some_stuck g (domain_numbers g.segments) found.domain (among_numbers g.segments found.domain found.positive found.named) (some_edge g.points found.domain g.segments found.named))
+    let o = run_options input.options in
+    ended _ _ (none_stopped g o (domain_numbers g.segments)) (some_stuck g o (domain_numbers g.segments) found.domain (among_numbers g.segments found.domain found.positive found.named) (some_edge g o found.domain found.named))

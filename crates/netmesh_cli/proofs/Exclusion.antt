@@ -11,7 +11,7 @@ use Rattle.netmesh_cli.specs.declared.command.Verb.TheVariants as verbs
 use Rattle.netmesh_cli.specs.declared.command.MeshOptions.{MeshOptions}
 use Rattle.netmesh_cli.specs.CommandLine.{Given, nothing_given}
 use Rattle.netmesh_cli.specs.Commands.{verb_word, IsForm, Task, MeshOf, GeomOf, RulesOf, CheckOf, ViewOf, ReplayOf, GenOf, verb_of, IsWholeFrom, IsSize, HasValue, AreOptions, StandFor, Calls, HasOneName, IsFaultOf, IsCommandOf, IsFault, IsCommand}
-use Rattle.netmesh_cli.proofs.Readings.{one_reading, some_of}
+use Rattle.netmesh_cli.proofs.WordsRead.{one_reading, some_of}
 
 abbrev Words : Type 0
 Words = List (List ℕ)

@@ -4,9 +4,9 @@ use Rattle.std.specs.Prelude.{slice_get}
 use Rattle.std.specs.Option.{option_copied}
 use Rattle.netmesh_cli.specs.declared.form.Form.{Form}
 use Rattle.netmesh_cli.specs.CommandLine.{Given, nothing_given}
-use Rattle.netmesh_cli.specs.Reading.{given_of, reading}
+use Rattle.netmesh_cli.specs.WordsRead.{given_of, reading}
 use Rattle.netmesh_cli.specs.Forms.{Has, IsRead, HasNot, HasNotAlone}
-use Rattle.netmesh_cli.proofs.Readings.{some_of, none_some}
+use Rattle.netmesh_cli.proofs.WordsRead.{some_of, none_some}
 
 abbrev Words : Type 0
 Words = List (List ℕ)

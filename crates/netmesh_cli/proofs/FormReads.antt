@@ -20,7 +20,7 @@ use Rattle.netmesh_cli.specs.declared.settings.Setting.TheVariants.{Maxh, Gradin
 use Rattle.netmesh_cli.specs.declared.form.Form.{Form}
 use Rattle.netmesh_cli.specs.CommandLine.{Given, nothing_given}
 use Rattle.netmesh_cli.specs.Commands.{place_count}
-use Rattle.netmesh_cli.specs.Reading.{given_of, reading}
+use Rattle.netmesh_cli.specs.WordsRead.{given_of, reading}
 use Rattle.netmesh_cli.specs.Asks.{place_word, asks}
 use Rattle.netmesh_cli.specs.Forms.{takes_options, asked_of, Has, IsRead}
 use Rattle.netmesh_cli.proofs.Uses.{Uses, row, value_for, first_is}

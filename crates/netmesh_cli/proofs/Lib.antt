@@ -1,23 +1,31 @@
-pub mod Refusals
-pub mod Courses
-pub mod Standing
-pub mod Exits
-pub mod Readable
-pub mod Sweeps
-pub mod Taken
-pub mod Works
-pub mod Excluded
-pub mod Exactly
-pub mod Tops
-pub mod Readings
+-- Lemmas, by theme.
+--
+-- the words of a call, as a function and as `clap` reads them
+pub mod WordsRead
 pub mod Walking
 pub mod Calling
 pub mod Exclusion
-pub mod Askings
-pub mod Ends
-pub mod Comments
 pub mod Uses
 pub mod Tables
 pub mod ByClap
 pub mod FormReads
 pub mod FormPlaces
+-- what is read of a file, which other answer it shuts out, and the first file that isn't accepted
+pub mod Refusals
+pub mod Readable
+pub mod Excluded
+pub mod Accepting
+pub mod Firsts
+-- what is made: areas, comments, and the run of a geometry
+pub mod Sweeps
+pub mod Comments
+pub mod Works
+pub mod Ends
+pub mod Making
+-- what is told and put, how far a call came, and what the top call says of it
+pub mod Tolds
+pub mod Puts
+pub mod Courses
+pub mod Tops
+pub mod Exactly
+pub mod Askings

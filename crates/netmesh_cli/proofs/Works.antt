@@ -11,15 +11,18 @@ use Rattle.grid_geom.specs.declared.RatPoint.{RatPoint}
 use Rattle.grid_geom.specs.Winding.{wind}
 use Rattle.geom_check.specs.declared.kinds.Segment.{Segment}
 use Rattle.geom_check.specs.Boundary.{boundary}
-use Rattle.geom_check.specs.Accepted.{IsPlanar, IsZeroOrOne}
-use Rattle.geom_check.specs.Geometry.{PlanarMap}
+use Rattle.geom_check.specs.Accepted.{IsZeroOrOne}
+use Rattle.geom_check.specs.Geometry.{PlanarMap, IsGeometry}
 use Rattle.mesh_run.specs.declared.domain_run.DomainRun.{DomainRun}
-use Rattle.mesh_run.specs.Boundary.{whole_pieces}
+use Rattle.size_field.specs.Cutting.{pieces_of}
+use Rattle.size_field.proofs.AllPieces.{all_pieces}
+use Rattle.mesh_run.specs.declared.Options.{Options}
+use Rattle.mesh_run.specs.Boundary.{IsPieceOf}
 use Rattle.mesh_run.specs.Opening.{unmeshed_run, front_edges}
 use Rattle.geom_check.specs.Domains.{domain_numbers, with_domain, sides_of, IsRising}
-use Rattle.mesh_run.proofs.Bounded.{front_is_boundary, whole_boundary}
+use Rattle.mesh_run.proofs.CutFronts.{cut_winds}
 use Rattle.geom_check.proofs.DomainNumbers.{numbers_rise}
-use Rattle.netmesh_cli.specs.Accepted.{IsOffSegments, IsWound, DoBothWind, IsCovered}
+use Rattle.netmesh_cli.specs.Run.{MeshInput, run_options, IsOffSegments, IsWound, DoBothWind, IsCovered}
 
 -- the numbers of domains are above 0
 abbrev IsPositive : ℕ → Type 0
@@ -36,31 +39,35 @@ all_positive ds (n ∷ ns) all = all_positive (with_domain ds n) ns (with_positi
 numbers_positive : (segments : List Segment) → All IsPositive (domain_numbers segments)
 numbers_positive segments = all_positive [] (sides_of segments) (All-nil IsPositive)
 
--- the run of a domain
-abbrev pub run_in : PlanarMap → ℕ → DomainRun
-run_in g n = unmeshed_run n g.segments (whole_pieces g.points g.segments)
+-- the run of a domain, with these options
+abbrev pub run_in : PlanarMap → Options → ℕ → DomainRun
+run_in g o n = unmeshed_run n g.segments (pieces_of g o.greatest o.grading)
 
--- its front winds as its boundary does
-winds : (g : PlanarMap) (n : ℕ) (q : RatPoint) → wind q (front_edges (run_in g n)) ≡ wind q (boundary g.points n g.segments)
-winds g n q = ap (wind q) (front_is_boundary n g.segments (whole_pieces g.points g.segments) ∙ whole_boundary n g.points g.segments)
+-- its front winds as its boundary does: the pieces of a segment wind as the segment
+winds : (g : PlanarMap) (o : Options) (n : ℕ) (q : RatPoint) → IsGeometry g → IsOffSegments g q → wind q (front_edges (run_in g o n)) ≡ wind q (boundary g.points n g.segments)
+winds g o n q is off = cut_winds g o.greatest o.grading n q is off.rational
 
-wound : (g : PlanarMap) → IsPlanar g.points g.segments → (n : ℕ) → 0 < n → IsWound g (run_in g n)
-wound g planar n positive = record {
-  same = λ q off. winds g n q;
-  side = λ q off. subst IsZeroOrOne (sym (winds g n q)) (planar.winding n positive q off.rational off.off);
+wound : (g : PlanarMap) (o : Options) → IsGeometry g → (n : ℕ) → 0 < n → IsWound g (run_in g o n)
+wound g o is n positive = record {
+  same = λ q off. winds g o n q is off;
+  side = λ q off. subst IsZeroOrOne (sym (winds g o n q is off)) (is.planar.winding n positive q off.rational off.off);
 }
 
-apart : (g : PlanarMap) → IsPlanar g.points g.segments → (q : RatPoint) → IsOffSegments g q → (c d : ℕ) → 0 < c → c < d → ¬ DoBothWind q (run_in g c) (run_in g d)
-apart g planar q off c d positive ordered both = planar.separate q off.rational off.off (record { c = c; d = d; positive = positive; ordered = ordered; in_c = sym (winds g c q) ∙ both.first; in_d = sym (winds g d q) ∙ both.second })
+apart : (g : PlanarMap) (o : Options) → IsGeometry g → (q : RatPoint) → IsOffSegments g q → (c d : ℕ) → 0 < c → c < d → ¬ DoBothWind q (run_in g o c) (run_in g o d)
+apart g o is q off c d positive ordered both = is.planar.separate q off.rational off.off (record { c = c; d = d; positive = positive; ordered = ordered; in_c = sym (winds g o c q is off) ∙ both.first; in_d = sym (winds g o d q is off) ∙ both.second })
 
-all_apart : (g : PlanarMap) → IsPlanar g.points g.segments → (q : RatPoint) → IsOffSegments g q → (ds : List ℕ) → All IsPositive ds → IsRising ds → AllPairs (λ c d. ¬ DoBothWind q c d) (map (run_in g) ds)
-all_apart g planar q off [] positive rising = λ i j d before inside. absurd (omega arith)
-all_apart g planar q off (c ∷ ds) positive rising = AllPairs-cons (λ c d. ¬ DoBothWind q c d) (run_in g c) (map (run_in g) ds)
-    (All-map (λ d. ¬ DoBothWind q (run_in g c) d) (run_in g) ds (λ k d inside. apart g planar q off c _ (All-head IsPositive c ds positive) (rising.0 k d inside)))
-    (all_apart g planar q off ds (All-tail IsPositive c ds positive) rising.1)
+all_apart : (g : PlanarMap) (o : Options) → IsGeometry g → (q : RatPoint) → IsOffSegments g q → (ds : List ℕ) → All IsPositive ds → IsRising ds → AllPairs (λ c d. ¬ DoBothWind q c d) (map (run_in g o) ds)
+all_apart g o is q off [] positive rising = λ i j d before inside. absurd (omega arith)
+all_apart g o is q off (c ∷ ds) positive rising = AllPairs-cons (λ c d. ¬ DoBothWind q c d) (run_in g o c) (map (run_in g o) ds)
+    (All-map (λ d. ¬ DoBothWind q (run_in g o c) d) (run_in g o) ds (λ k d inside. apart g o is q off c _ (All-head IsPositive c ds positive) (rising.0 k d inside)))
+    (all_apart g o is q off ds (All-tail IsPositive c ds positive) rising.1)
 
-pub run_covered : (g : PlanarMap) → IsPlanar g.points g.segments → IsCovered g
-run_covered g planar = record {
-  wound = All-map (IsWound g) (run_in g) (domain_numbers g.segments) (λ k d inside. wound g planar _ (numbers_positive g.segments k d inside));
-  separate = λ q off. all_apart g planar q off (domain_numbers g.segments) (numbers_positive g.segments) (numbers_rise g.segments);
+pub run_covered : (input : MeshInput) → IsGeometry input.geometry → IsCovered input
+run_covered input is = let g = input.geometry in let o = run_options input.options in record {
+  wound = All-map (IsWound g) (run_in g o) (domain_numbers g.segments) (λ k d inside. wound g o is _ (numbers_positive g.segments k d inside));
+  separate = λ q off. all_apart g o is q off (domain_numbers g.segments) (numbers_positive g.segments) (numbers_rise g.segments);
 }
+
+-- each piece is one of a segment
+pub pieces_named : (g : PlanarMap) (o : Options) → IsGeometry g → All (IsPieceOf g.segments) (pieces_of g o.greatest o.grading)
+pieces_named g o is = λ k d within. (all_pieces g o.greatest o.grading is k d within).of_segment

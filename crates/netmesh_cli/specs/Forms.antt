@@ -10,7 +10,7 @@ use Rattle.netmesh_cli.specs.declared.command.Verb.TheVariants as verbs
 use Rattle.netmesh_cli.specs.declared.form.Form.{Form}
 use Rattle.netmesh_cli.specs.CommandLine.{Given, nothing_given}
 use Rattle.netmesh_cli.specs.Commands.{place_count}
-use Rattle.netmesh_cli.specs.Reading.{given_of, reading}
+use Rattle.netmesh_cli.specs.WordsRead.{given_of, reading}
 use Rattle.netmesh_cli.specs.Asks.{asks}
 
 abbrev pub takes_options : Verb → Bool

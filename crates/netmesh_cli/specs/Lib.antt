@@ -1,15 +1,24 @@
-pub mod Words
-pub mod Status
-pub mod Causes
-pub mod Accepted
-pub mod Readings
-pub mod Course
-pub mod Drawn
-pub mod Stands
-pub mod Lines
-pub mod Top
+-- The words of the contracts.
+--
+-- what the words of a call ask for
 pub mod CommandLine
-pub mod Reading
 pub mod Commands
+pub mod WordsRead
 pub mod Asks
 pub mod Forms
+pub mod Words
+-- which bytes are accepted, and what is made of them
+pub mod Accepted
+pub mod BytesRefused
+pub mod Run
+pub mod Shown
+-- what is taken and put, verb by verb
+pub mod Causes
+pub mod Kinds
+pub mod Taking
+pub mod Jobs
+-- what a call leaves, one way for all verbs
+pub mod Served
+pub mod Lines
+pub mod Status
+pub mod Top

@@ -4,7 +4,7 @@ ghost use Rattle.std.specs.Prelude.{◌≡◌, ◌∷◌, [], length, All};
 ghost use Rattle.grid_geom.specs.Bounds.{IsOnGrid, IsWithin};
 ghost use Rattle.grid_geom.specs.Area.{sweep_of, shoelace};
 ghost use Rattle.geom_check.specs.Boundary.{boundary, edge_of, IsSegmentOf};
-ghost use Rattle.netmesh_cli.specs.Drawn.{double_area as double_area_of};
+ghost use Rattle.netmesh_cli.specs.Shown.{double_area as double_area_of};
 
 use geom_check::{Geometry, Segment};
 use grid_geom::{Point, orient};

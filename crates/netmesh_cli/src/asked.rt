@@ -2,10 +2,11 @@
 
 ghost use Rattle.std.specs.Prelude.{◌≡◌, List, map, IfOk, IfErr, IsTrue, ◌↔◌, string_bytes};
 ghost use Rattle.netmesh_cli.specs.Commands.{IsCommand};
-ghost use Rattle.netmesh_cli.specs.Words.{task_asked, no_options, WordsRefused};
+ghost use Rattle.netmesh_cli.specs.Words.{no_options, WordsRefused};
+ghost use Rattle.netmesh_cli.specs.Jobs.{job_of, task_of_job, IsBuilt};
 
 use super::Refusal;
-use super::command::{Command, MeshFiles, MeshOptions, read_words};
+use super::command::{Command, MeshCall, MeshOptions, read_words};
 use std::alloc::Global;
 
 /// The part that words are that are not built yet.
@@ -15,7 +16,7 @@ const WORDS_PART: u32 = 1;
 #[derive(Clone, Copy)]
 pub enum Asked<'a> {
     /// A mesh of a geometry, without options.
-    Mesh(MeshFiles<'a>),
+    Mesh(MeshCall<'a>),
     /// A geometry, printed.
     Geom(&'a str),
 }
@@ -32,7 +33,9 @@ fn has_none(options: &MeshOptions) -> bool
 
 /// What the words of a call ask for, or why they are refused.
 pub fn read_asked<'a>(alloc: Global, words: &'a [String]) -> Result<Asked<'a>, Refusal>
-    ensures asked { IfOk result (λ asked. IsCommand (map string_bytes words.entry.now) (task_asked asked)) }
+    ensures asked { IfOk result (λ asked. IsCommand (map string_bytes words.entry.now)
+        (task_of_job (job_of asked))) }
+    ensures built { IfOk result (λ asked. IsBuilt (job_of asked)) }
     ensures refused { IfErr result (WordsRefused (map string_bytes words.entry.now)) }
 {
     match read_words(alloc, words)? {

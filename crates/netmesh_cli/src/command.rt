@@ -36,7 +36,7 @@ pub struct MeshOptions {
 
 /// The files of `mesh` by their names, and its options.
 #[derive(Clone, Copy)]
-pub struct MeshFiles<'a> {
+pub struct MeshCall<'a> {
     pub geometry: &'a str,
     pub rules: &'a str,
     pub mesh: &'a str,
@@ -48,7 +48,7 @@ pub struct MeshFiles<'a> {
 #[derive(Clone, Copy)]
 pub enum Command<'a> {
     /// A mesh of a geometry.
-    Mesh(MeshFiles<'a>),
+    Mesh(MeshCall<'a>),
     /// A geometry, printed.
     Geom {
         geometry: &'a str,
@@ -110,7 +110,8 @@ pub fn read_words<'a>(
     alloc: Global,
     words: &'a [String],
 ) -> Result<Result<Command<'a>, WordsFault>, AllocError>
-    ensures command { IfOk result (λ read. IfOk read (λ command. IsCommand (map string_bytes words.entry.now) (task_of command))) }
+    ensures command { IfOk result (λ read. IfOk read (λ command.
+        IsCommand (map string_bytes words.entry.now) (task_of command))) }
     ensures fault { IfOk result (λ read. IfErr read (IsFault (map string_bytes words.entry.now))) }
 {
     let [first, rest @ ..] = words else {

@@ -5,7 +5,7 @@ ghost use Rattle.std.specs.Option.{option_copied};
 ghost use Rattle.clap.specs.Words.{app_of, found_of, first_value, new_rule, rule_of, with_rule};
 ghost use Rattle.clap.specs.declared.builder.action.ArgAction.TheVariants.{Set};
 ghost use Rattle.netmesh_cli.specs.CommandLine.{nothing_given};
-ghost use Rattle.netmesh_cli.specs.Reading.{given_of, reading};
+ghost use Rattle.netmesh_cli.specs.WordsRead.{given_of, reading};
 ghost use Rattle.netmesh_cli.specs.Asks.{place_word, no_places, asks};
 ghost use Rattle.netmesh_cli.specs.Commands.{place_count};
 ghost use Rattle.netmesh_cli.specs.Forms.{asked_of, takes_options, IsRead, HasNot, HasNotAlone};
@@ -33,7 +33,8 @@ fn with_place<'a>(
     command: Command<'a>,
     name: &'a str,
 ) -> Result<Command<'a>, AllocError>
-    ensures { IfOk result (λ more. app_of more ≡ with_rule (app_of command.entry) (record (new_rule name.entry.now) { required = true; action = Some Set })) }
+    ensures { IfOk result (λ more. app_of more ≡ with_rule (app_of command.entry)
+        (record (new_rule name.entry.now) { required = true; action = Some Set })) }
 {
     let place = Arg::new(alloc, name).required(true).action(ArgAction::Set);
     command.arg(place)
@@ -45,7 +46,11 @@ fn with_option<'a>(
     command: Command<'a>,
     name: &'a str,
 ) -> Result<Command<'a>, AllocError>
-    ensures { IfOk result (λ more. app_of more ≡ with_rule (app_of command.entry) (record (new_rule name.entry.now) { long = Some name.entry.now; action = Some Set })) }
+    ensures { IfOk result (λ more. app_of more ≡ with_rule (app_of command.entry)
+        (record (new_rule name.entry.now) {
+          long = Some name.entry.now;
+          action = Some Set;
+        })) }
 {
     let option = Arg::new(alloc, name).long(name).action(ArgAction::Set);
     command.arg(option)
@@ -120,7 +125,12 @@ fn form_of<'a>(matches: &ArgMatches<'a>) -> Form<'a>
     ensures second { option_copied result.second ≡ first_value (found_of matches.now) (place_word 2) }
     ensures third { option_copied result.third ≡ first_value (found_of matches.now) (place_word 3) }
     ensures fourth { option_copied result.fourth ≡ first_value (found_of matches.now) (place_word 4) }
-    ensures given { given_of result.settings ≡ record { maxh = first_value (found_of matches.now) (codes "maxh"); grading = first_value (found_of matches.now) (codes "grading"); class = first_value (found_of matches.now) (codes "class"); steps = first_value (found_of matches.now) (codes "steps") } }
+    ensures given { given_of result.settings ≡ record {
+      maxh = first_value (found_of matches.now) (codes "maxh");
+      grading = first_value (found_of matches.now) (codes "grading");
+      class = first_value (found_of matches.now) (codes "class");
+      steps = first_value (found_of matches.now) (codes "steps");
+    } }
 {
     Form {
         first: matches.get_str("1"),
@@ -142,7 +152,8 @@ pub fn read_form<'a>(
     verb: Verb,
     words: &'a [String],
 ) -> Result<Option<Form<'a>>, AllocError>
-    ensures { IfOk result (IsRead (place_count verb) (takes_options verb) (map string_bytes words.entry.now)) }
+    ensures { IfOk result
+        (IsRead (place_count verb) (takes_options verb) (map string_bytes words.entry.now)) }
 {
     let command = command_of(alloc, verb)?;
     match command.try_get_matches_from(words) {
@@ -159,8 +170,10 @@ pub fn read_form<'a>(
 /// The one place of words that are one place, without an option.
 pub fn one_place<'a>(words: &'a [String], form: Option<Form<'a>>) -> Result<&'a str, WordsFault>
     requires { IsRead 1 false (map string_bytes words.now) form }
-    ensures ok { IfOk result (λ found. reading None nothing_given (map string_bytes words.entry.now) ≡ Some (found.now ∷ [], nothing_given)) }
-    ensures fault { IfErr result (λ fault. (fault ≡ WordsFault.Form) × HasNotAlone 1 (reading None nothing_given (map string_bytes words.entry.now))) }
+    ensures ok { IfOk result (λ found. reading None nothing_given (map string_bytes words.entry.now)
+        ≡ Some (found.now ∷ [], nothing_given)) }
+    ensures fault { IfErr result (λ fault. (fault ≡ WordsFault.Form)
+        × HasNotAlone 1 (reading None nothing_given (map string_bytes words.entry.now))) }
 {
     let Some(form) = form else {
         return Err(WordsFault::Form);
@@ -177,8 +190,10 @@ pub fn two_places<'a>(
     form: Option<Form<'a>>,
 ) -> Result<(&'a str, &'a str), WordsFault>
     requires { IsRead 2 false (map string_bytes words.now) form }
-    ensures ok { IfOk result (λ found. reading None nothing_given (map string_bytes words.entry.now) ≡ Some (found.0.now ∷ found.1.now ∷ [], nothing_given)) }
-    ensures fault { IfErr result (λ fault. (fault ≡ WordsFault.Form) × HasNotAlone 2 (reading None nothing_given (map string_bytes words.entry.now))) }
+    ensures ok { IfOk result (λ found. reading None nothing_given (map string_bytes words.entry.now)
+        ≡ Some (found.0.now ∷ found.1.now ∷ [], nothing_given)) }
+    ensures fault { IfErr result (λ fault. (fault ≡ WordsFault.Form)
+        × HasNotAlone 2 (reading None nothing_given (map string_bytes words.entry.now))) }
 {
     let Some(form) = form else {
         return Err(WordsFault::Form);
@@ -198,8 +213,10 @@ pub fn three_places<'a>(
     form: Option<Form<'a>>,
 ) -> Result<(&'a str, &'a str, &'a str), WordsFault>
     requires { IsRead 3 false (map string_bytes words.now) form }
-    ensures ok { IfOk result (λ found. reading None nothing_given (map string_bytes words.entry.now) ≡ Some (found.0.now ∷ found.1.now ∷ found.2.now ∷ [], nothing_given)) }
-    ensures fault { IfErr result (λ fault. (fault ≡ WordsFault.Form) × HasNotAlone 3 (reading None nothing_given (map string_bytes words.entry.now))) }
+    ensures ok { IfOk result (λ found. reading None nothing_given (map string_bytes words.entry.now)
+        ≡ Some (found.0.now ∷ found.1.now ∷ found.2.now ∷ [], nothing_given)) }
+    ensures fault { IfErr result (λ fault. (fault ≡ WordsFault.Form)
+        × HasNotAlone 3 (reading None nothing_given (map string_bytes words.entry.now))) }
 {
     let Some(form) = form else {
         return Err(WordsFault::Form);
@@ -222,8 +239,13 @@ pub fn four_places<'a>(
     form: Option<Form<'a>>,
 ) -> Result<(&'a str, &'a str, &'a str, &'a str, Settings<'a>), WordsFault>
     requires { IsRead 4 true (map string_bytes words.now) form }
-    ensures ok { IfOk result (λ found. reading None nothing_given (map string_bytes words.entry.now) ≡ Some (found.0.now ∷ found.1.now ∷ found.2.now ∷ found.3.now ∷ [], given_of found.4)) }
-    ensures fault { IfErr result (λ fault. (fault ≡ WordsFault.Form) × HasNot 4 (reading None nothing_given (map string_bytes words.entry.now))) }
+    ensures ok { IfOk result (λ found. reading None nothing_given (map string_bytes words.entry.now)
+        ≡ Some (
+          found.0.now ∷ found.1.now ∷ found.2.now ∷ found.3.now ∷ [],
+          given_of found.4,
+        )) }
+    ensures fault { IfErr result (λ fault. (fault ≡ WordsFault.Form)
+        × HasNot 4 (reading None nothing_given (map string_bytes words.entry.now))) }
 {
     let Some(form) = form else {
         return Err(WordsFault::Form);

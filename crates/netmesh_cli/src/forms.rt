@@ -5,14 +5,15 @@ ghost use Rattle.netmesh_cli.specs.Commands.{place_count, task_of, IsFaultOf, Is
 ghost use Rattle.netmesh_cli.specs.Forms.{takes_options, IsRead};
 
 use super::WordsFault;
-use super::command::{Command, MeshFiles, Verb};
+use super::command::{Command, MeshCall, Verb};
 use super::form::{Form, four_places, one_place, three_places, two_places};
 use super::values::{options_of, whole_from};
 
 /// The words after `mesh`.
 fn read_mesh<'a>(words: &'a [String], form: Option<Form<'a>>) -> Result<Command<'a>, WordsFault>
     requires { IsRead 4 true (map string_bytes words.now) form }
-    ensures ok { IfOk result (λ command. IsCommandOf Verb.Mesh (map string_bytes words.entry.now) (task_of command)) }
+    ensures ok { IfOk result (λ command.
+        IsCommandOf Verb.Mesh (map string_bytes words.entry.now) (task_of command)) }
     ensures fault { IfErr result (IsFaultOf Verb.Mesh (map string_bytes words.entry.now)) }
 {
     let (geometry, rules, mesh, log, settings) = four_places(words, form)?;
@@ -20,7 +21,7 @@ fn read_mesh<'a>(words: &'a [String], form: Option<Form<'a>>) -> Result<Command<
     if mesh == log {
         return Err(WordsFault::SameName);
     }
-    Ok(Command::Mesh(MeshFiles {
+    Ok(Command::Mesh(MeshCall {
         geometry,
         rules,
         mesh,
@@ -32,7 +33,8 @@ fn read_mesh<'a>(words: &'a [String], form: Option<Form<'a>>) -> Result<Command<
 /// The words after `geom`.
 fn read_geom<'a>(words: &'a [String], form: Option<Form<'a>>) -> Result<Command<'a>, WordsFault>
     requires { IsRead 1 false (map string_bytes words.now) form }
-    ensures ok { IfOk result (λ command. IsCommandOf Verb.Geom (map string_bytes words.entry.now) (task_of command)) }
+    ensures ok { IfOk result (λ command.
+        IsCommandOf Verb.Geom (map string_bytes words.entry.now) (task_of command)) }
     ensures fault { IfErr result (IsFaultOf Verb.Geom (map string_bytes words.entry.now)) }
 {
     let geometry = one_place(words, form)?;
@@ -42,7 +44,8 @@ fn read_geom<'a>(words: &'a [String], form: Option<Form<'a>>) -> Result<Command<
 /// The words after `rules`.
 fn read_rules<'a>(words: &'a [String], form: Option<Form<'a>>) -> Result<Command<'a>, WordsFault>
     requires { IsRead 1 false (map string_bytes words.now) form }
-    ensures ok { IfOk result (λ command. IsCommandOf Verb.Rules (map string_bytes words.entry.now) (task_of command)) }
+    ensures ok { IfOk result (λ command.
+        IsCommandOf Verb.Rules (map string_bytes words.entry.now) (task_of command)) }
     ensures fault { IfErr result (IsFaultOf Verb.Rules (map string_bytes words.entry.now)) }
 {
     let rules = one_place(words, form)?;
@@ -52,7 +55,8 @@ fn read_rules<'a>(words: &'a [String], form: Option<Form<'a>>) -> Result<Command
 /// The words after `check`.
 fn read_check<'a>(words: &'a [String], form: Option<Form<'a>>) -> Result<Command<'a>, WordsFault>
     requires { IsRead 2 false (map string_bytes words.now) form }
-    ensures ok { IfOk result (λ command. IsCommandOf Verb.Check (map string_bytes words.entry.now) (task_of command)) }
+    ensures ok { IfOk result (λ command.
+        IsCommandOf Verb.Check (map string_bytes words.entry.now) (task_of command)) }
     ensures fault { IfErr result (IsFaultOf Verb.Check (map string_bytes words.entry.now)) }
 {
     let (geometry, mesh) = two_places(words, form)?;
@@ -62,7 +66,8 @@ fn read_check<'a>(words: &'a [String], form: Option<Form<'a>>) -> Result<Command
 /// The words after `view`.
 fn read_view<'a>(words: &'a [String], form: Option<Form<'a>>) -> Result<Command<'a>, WordsFault>
     requires { IsRead 3 false (map string_bytes words.now) form }
-    ensures ok { IfOk result (λ command. IsCommandOf Verb.View (map string_bytes words.entry.now) (task_of command)) }
+    ensures ok { IfOk result (λ command.
+        IsCommandOf Verb.View (map string_bytes words.entry.now) (task_of command)) }
     ensures fault { IfErr result (IsFaultOf Verb.View (map string_bytes words.entry.now)) }
 {
     let (log, domain, step) = three_places(words, form)?;
@@ -74,7 +79,8 @@ fn read_view<'a>(words: &'a [String], form: Option<Form<'a>>) -> Result<Command<
 /// The words after `replay`.
 fn read_replay<'a>(words: &'a [String], form: Option<Form<'a>>) -> Result<Command<'a>, WordsFault>
     requires { IsRead 3 false (map string_bytes words.now) form }
-    ensures ok { IfOk result (λ command. IsCommandOf Verb.Replay (map string_bytes words.entry.now) (task_of command)) }
+    ensures ok { IfOk result (λ command.
+        IsCommandOf Verb.Replay (map string_bytes words.entry.now) (task_of command)) }
     ensures fault { IfErr result (IsFaultOf Verb.Replay (map string_bytes words.entry.now)) }
 {
     let (geometry, rules, log) = three_places(words, form)?;
@@ -88,7 +94,8 @@ fn read_replay<'a>(words: &'a [String], form: Option<Form<'a>>) -> Result<Comman
 /// The words after `gen`.
 fn read_gen<'a>(words: &'a [String], form: Option<Form<'a>>) -> Result<Command<'a>, WordsFault>
     requires { IsRead 2 false (map string_bytes words.now) form }
-    ensures ok { IfOk result (λ command. IsCommandOf Verb.Gen (map string_bytes words.entry.now) (task_of command)) }
+    ensures ok { IfOk result (λ command.
+        IsCommandOf Verb.Gen (map string_bytes words.entry.now) (task_of command)) }
     ensures fault { IfErr result (IsFaultOf Verb.Gen (map string_bytes words.entry.now)) }
 {
     let (squares, parts) = two_places(words, form)?;
@@ -104,7 +111,8 @@ pub fn read_rest<'a>(
     form: Option<Form<'a>>,
 ) -> Result<Command<'a>, WordsFault>
     requires { IsRead (place_count verb) (takes_options verb) (map string_bytes words.now) form }
-    ensures ok { IfOk result (λ command. IsCommandOf verb (map string_bytes words.entry.now) (task_of command)) }
+    ensures ok { IfOk result (λ command.
+        IsCommandOf verb (map string_bytes words.entry.now) (task_of command)) }
     ensures fault { IfErr result (IsFaultOf verb (map string_bytes words.entry.now)) }
 {
     match verb {

@@ -1,17 +1,20 @@
-//! The verb `geom`: takes a geometry, and writes its normal text, and as comments its shift and the areas of its domains.
+//! The verb `geom`: takes a geometry, and shows its normal text, and as comments its shift and the areas of
+//! its domains.
 
-ghost use Rattle.std.specs.Prelude.{◌≡◌, ◌≤◌, ◌++◌, IfOk, IfErr, OnOk};
+ghost use Rattle.std.specs.Prelude.{◌≡◌, ◌≤◌, ◌++◌, [], IfOk, IfErr};
 ghost use Rattle.std.specs.List.{flat_map};
 ghost use Rattle.text_rows.specs.Rows.{Appends};
-ghost use Rattle.folder_io.specs.Causes.{Rose, Told};
+ghost use Rattle.folder_io.specs.Causes.{Told};
 ghost use Rattle.in2d_reader.specs.Normal.{CanPrint};
-ghost use Rattle.netmesh_cli.specs.Course.{WrittenBefore};
-ghost use Rattle.netmesh_cli.specs.Drawn.{IsDrawn, IsDrawing, DrawingCause, shift_line, domain_line, drawn_text};
+ghost use Rattle.netmesh_cli.specs.Shown.{shift_line, domain_line, shown_text};
+ghost use Rattle.netmesh_cli.specs.Jobs.{GeomJob, IsDrawn, IsShown, made_of};
+ghost use Rattle.netmesh_cli.specs.Served.{MakeRefused};
 
 use super::areas::double_area;
-use super::geometry::{Drawing, take_geometry};
-use super::{Refusal, files};
-use folder_io::{Folder, Sink};
+use super::geometry::{ReadGeometry, take_geometry};
+use super::made::Made;
+use super::{Outcome, Refusal};
+use folder_io::Folder;
 use geom_check::{Domain, Geometry};
 use in2d_reader::print_in2d;
 use std::alloc::{AllocError, Global};
@@ -41,7 +44,8 @@ fn write_domain(text: &mut String, geometry: &Geometry, domain: &Domain) -> Resu
 
 /// Adds the lines of the domains, by rising number.
 fn write_domains(text: &mut String, geometry: &Geometry) -> Result<(), AllocError>
-    ensures { Appends result text.old text.new (flat_map (domain_line geometry.now) geometry.now.domains) }
+    ensures { Appends result text.old text.new
+        (flat_map (domain_line geometry.now) geometry.now.domains) }
 {
     let domains = geometry.domains();
     for domain in domains {
@@ -52,7 +56,9 @@ fn write_domains(text: &mut String, geometry: &Geometry) -> Result<(), AllocErro
 
 /// The comments: the shift, and the area of each domain.
 fn comments(alloc: Global, geometry: &Geometry) -> Result<Vec<u8>, AllocError>
-    ensures { IfOk result (λ text. text.items ≡ shift_line geometry.now ++ flat_map (domain_line geometry.now) geometry.now.domains) }
+    ensures { IfOk result (λ text. text.items
+        ≡ shift_line geometry.now
+        ++ flat_map (domain_line geometry.now) geometry.now.domains) }
 {
     let mut text = String::new(alloc);
     write_shift(&mut text, geometry)?;
@@ -60,31 +66,36 @@ fn comments(alloc: Global, geometry: &Geometry) -> Result<Vec<u8>, AllocError>
     Ok(text.into_bytes())
 }
 
-/// The text that is written of a geometry.
-fn drawn_text(alloc: Global, drawing: &Drawing) -> Result<Vec<u8>, AllocError>
-    requires { CanPrint drawing.now.raw }
-    ensures { IfOk result (λ text. text.items ≡ drawn_text drawing.now.raw drawing.now.map) }
+/// The text that is shown of a geometry.
+fn shown_text(alloc: Global, read: &ReadGeometry) -> Result<Vec<u8>, AllocError>
+    requires { CanPrint read.now.rows }
+    ensures { IfOk result (λ text. text.items ≡ shown_text read.now.rows read.now.geometry) }
 {
-    let mut text = print_in2d(alloc, &drawing.raw)?;
-    text.extend_from_slice(&comments(alloc, &drawing.map)?)?;
+    let mut text = print_in2d(alloc, &read.rows)?;
+    text.extend_from_slice(&comments(alloc, &read.geometry)?)?;
     Ok(text)
 }
 
-/// Writes a geometry.
-pub fn geom<F: Folder, O: Sink>(
+/// What `geom` makes of the geometry that it takes: its text, and no file.
+pub fn make_geom<'a, F: Folder>(
     alloc: Global,
-    name: &str,
+    name: &'a str,
     folder: &mut F,
-    out: &mut O,
-) -> Result<(), Refusal>
-    ensures shown { OnOk result (Told (F.held folder.old) (IsDrawn name.now (O.written out.old) (O.written out.new))) }
-    ensures held { F.held folder.new ≡ F.held folder.old }
-    ensures cause { IfErr result (DrawingCause name.now (F.held folder.old) (Rose (F.faults folder.old) (F.faults folder.new) × (F.last folder.new ≡ name.now)) (Rose (O.faults out.old) (O.faults out.new))) }
-    ensures written { IfErr result (WrittenBefore (IsDrawing name.now (F.held folder.old)) (O.written out.old) (O.written out.new)) }
-    ensures rises { F.faults folder.old ≤ F.faults folder.new }
-    ensures rises_out { O.faults out.old ≤ O.faults out.new }
+) -> Result<Made<'a>, Refusal>
+    ensures held { (F.state folder.new).held ≡ (F.state folder.old).held }
+    ensures made { IfOk result (λ made. Told (F.state folder.old).held
+        (λ files. IsDrawn name.entry.now files (made_of made))) }
+    ensures puts { IfOk result (λ made. made.puts.items ≡ []) }
+    ensures ending { IfOk result (λ made. IsShown made.outcome) }
+    ensures refused { IfErr result (MakeRefused
+        (GeomJob name.entry.now) (F.state folder.old) (F.state folder.new)) }
+    ensures rises { (F.state folder.old).faults ≤ (F.state folder.new).faults }
 {
-    let drawing = take_geometry(alloc, folder, name)?;
-    let text = drawn_text(alloc, &drawing)?;
-    files::answer(out, &text)
+    let read = take_geometry(alloc, folder, name)?;
+    let answer = shown_text(alloc, &read)?;
+    Ok(Made {
+        puts: Vec::new(alloc),
+        answer,
+        outcome: Outcome::Shown,
+    })
 }

@@ -1,26 +1,27 @@
 //! The geometry of a file: its text is read, checked, and moved to the grid.
 
-ghost use Rattle.std.specs.Prelude.{◌≡◌, ◌≤◌, ◌||◌, IfOk, IfErr};
-ghost use Rattle.std.specs.List.{list_any};
-ghost use Rattle.folder_io.specs.Causes.{Rose, Told};
+ghost use Rattle.std.specs.Prelude.{◌≡◌, ◌≤◌, IfOk, IfErr};
+ghost use Rattle.folder_io.specs.Causes.{Told};
 ghost use Rattle.in2d_reader.specs.Normal.{CanPrint};
 ghost use Rattle.geom_check.specs.Placed.{IsReadable};
 ghost use Rattle.geom_check.specs.Geometry.{IsGeometryOf};
-ghost use Rattle.netmesh_cli.specs.Accepted.{IsText, IsMapText, HoldsMap, has_size, keeps_size};
-ghost use Rattle.netmesh_cli.specs.Course.{BytesRefused, MapRefused};
-ghost use Rattle.netmesh_cli.specs.Readings.{ReadRefused, CheckRefused};
+ghost use Rattle.netmesh_cli.specs.Accepted.{IsText, IsGeometryText};
+ghost use Rattle.netmesh_cli.specs.Kinds.{GeometryRejects};
+ghost use Rattle.netmesh_cli.specs.Taking.{TakeRefused, geometry_at};
+ghost use Rattle.netmesh_cli.specs.Jobs.{HoldsGeometry};
+ghost use Rattle.netmesh_cli.specs.BytesRefused.{ReadRefused, CheckRefused, MayRefuse};
 
-use super::{Refusal, files};
+use super::{FILE_LIMIT, Refusal, files};
 use folder_io::Folder;
 use geom_check::{GeomRefusal, Geometry, check};
-use in2d_reader::{Dec, In2dRefusal, MaterialRow, PointRow, RawGeometry, SegmentRow, read_in2d};
+use in2d_reader::{In2dRefusal, RawGeometry, read_in2d};
 use std::alloc::Global;
 
-/// A geometry as its text writes it, and as it lies on the grid.
+/// A geometry by the rows of its text, and as it lies on the grid.
 #[derive(Debug, Drop)]
-pub struct Drawing {
-    pub raw: RawGeometry,
-    pub map: Geometry,
+pub struct ReadGeometry {
+    pub rows: RawGeometry,
+    pub geometry: Geometry,
 }
 
 /// Reads the text of a geometry.
@@ -30,34 +31,34 @@ fn read_text(alloc: Global, bytes: &[u8]) -> Result<RawGeometry, Refusal>
     ensures refused { IfErr result (ReadRefused bytes.now) }
 {
     match read_in2d(alloc, bytes) {
-        Ok(raw) => Ok(raw),
+        Ok(rows) => Ok(rows),
         Err(In2dRefusal::Memory) => Err(Refusal::Memory),
         Err(fault) => Err(Refusal::In2d(fault)),
     }
 }
 
 /// Checks a geometry, and moves it to the grid.
-fn check_raw(alloc: Global, raw: &RawGeometry) -> Result<Geometry, Refusal>
-    requires { IsReadable raw.now }
-    ensures accepted { IfOk result (IsGeometryOf raw.now) }
-    ensures refused { IfErr result (CheckRefused raw.now) }
+fn check_rows(alloc: Global, rows: &RawGeometry) -> Result<Geometry, Refusal>
+    requires { IsReadable rows.now }
+    ensures accepted { IfOk result (IsGeometryOf rows.now) }
+    ensures refused { IfErr result (CheckRefused rows.now) }
 {
-    match check(alloc, raw) {
-        Ok(map) => Ok(map),
+    match check(alloc, rows) {
+        Ok(geometry) => Ok(geometry),
         Err(GeomRefusal::Memory) => Err(Refusal::Memory),
         Err(fault) => Err(Refusal::Geometry(fault)),
     }
 }
 
 /// The geometry that a text writes, and its place on the grid.
-fn read_geometry(alloc: Global, bytes: &[u8]) -> Result<Drawing, Refusal>
-    ensures accepted { IfOk result (λ d. IsMapText bytes.now d.raw d.map) }
-    ensures printable { IfOk result (λ d. CanPrint d.raw) }
-    ensures refused { IfErr result (BytesRefused bytes.now) }
+fn read_geometry(alloc: Global, bytes: &[u8]) -> Result<ReadGeometry, Refusal>
+    ensures accepted { IfOk result (λ read. IsGeometryText bytes.now read.rows read.geometry) }
+    ensures printable { IfOk result (λ read. CanPrint read.rows) }
+    ensures refused { IfErr result (MayRefuse (GeometryRejects bytes.now)) }
 {
-    let raw = read_text(alloc, bytes)?;
-    let map = check_raw(alloc, &raw)?;
-    Ok(Drawing { raw, map })
+    let rows = read_text(alloc, bytes)?;
+    let geometry = check_rows(alloc, &rows)?;
+    Ok(ReadGeometry { rows, geometry })
 }
 
 /// Takes the file of a geometry and reads it.
@@ -65,53 +66,15 @@ pub fn take_geometry<F: Folder>(
     alloc: Global,
     folder: &mut F,
     name: &str,
-) -> Result<Drawing, Refusal>
-    ensures held { F.held folder.new ≡ F.held folder.old }
-    ensures accepted { IfOk result (λ d. Told (F.held folder.old) (λ files. HoldsMap files name.now d.raw d.map)) }
-    ensures printable { IfOk result (λ d. CanPrint d.raw) }
-    ensures refused { IfErr result (MapRefused (F.held folder.old) name.now (Rose (F.faults folder.old) (F.faults folder.new) × (F.last folder.new ≡ name.now))) }
-    ensures rises { F.faults folder.old ≤ F.faults folder.new }
+) -> Result<ReadGeometry, Refusal>
+    ensures held { (F.state folder.new).held ≡ (F.state folder.old).held }
+    ensures accepted { IfOk result (λ read. Told (F.state folder.old).held
+        (λ files. HoldsGeometry files name.now read.rows read.geometry)) }
+    ensures printable { IfOk result (λ read. CanPrint read.rows) }
+    ensures refused { IfErr result (λ refusal. TakeRefused
+        (F.state folder.old) (F.state folder.new) refusal (geometry_at name.now)) }
+    ensures rises { (F.state folder.old).faults ≤ (F.state folder.new).faults }
 {
-    let bytes = files::take(alloc, folder, name)?;
+    let bytes = files::take(alloc, folder, name, FILE_LIMIT)?;
     read_geometry(alloc, &bytes)
-}
-
-/// Whether a greatest size is given that has an effect: one above 0.
-fn has_size(maxh: &Option<Dec>) -> bool
-    ensures { result ≡ has_size maxh.now }
-{
-    match maxh {
-        Some(size) => size.digits > 0,
-        None => false,
-    }
-}
-
-/// Whether some point has such a size.
-fn has_sized_point(rows: &[PointRow]) -> bool
-    ensures { result ≡ list_any (λ row. has_size row.maxh) rows.now }
-{
-    rows.iter().any(|row| has_size(&row.maxh))
-}
-
-/// Whether some segment has such a size.
-fn has_sized_segment(rows: &[SegmentRow]) -> bool
-    ensures { result ≡ list_any (λ row. has_size row.maxh) rows.now }
-{
-    rows.iter().any(|row| has_size(&row.maxh))
-}
-
-/// Whether some material has such a size.
-fn has_sized_material(rows: &[MaterialRow]) -> bool
-    ensures { result ≡ list_any (λ row. has_size row.maxh) rows.now }
-{
-    rows.iter().any(|row| has_size(&row.maxh))
-}
-
-/// Whether some point, segment or material has such a size.
-pub fn keeps_size(raw: &RawGeometry) -> bool
-    ensures { result ≡ keeps_size raw.now }
-{
-    has_sized_point(raw.points.as_slice())
-        || has_sized_segment(raw.segments.as_slice())
-        || has_sized_material(raw.materials.as_slice())
 }

@@ -7,20 +7,25 @@ ghost use Rattle.in2d_reader.specs.Grammar.{Derives};
 ghost use Rattle.in2d_reader.specs.Normal.{CanPrint};
 ghost use Rattle.geom_check.specs.Geometry.{PlanarMap, IsGeometryOf};
 ghost use Rattle.mesh_run.specs.declared.End.TheVariants.{Stuck};
-ghost use Rattle.netmesh_cli.specs.Accepted.{IsMapText, run_of};
-ghost use Rattle.netmesh_cli.specs.Drawn.{drawn_text};
+ghost use Rattle.netmesh_cli.specs.Accepted.{IsGeometryText};
+ghost use Rattle.netmesh_cli.specs.Run.{MeshInput, run_of};
+ghost use Rattle.netmesh_cli.specs.Shown.{shown_text};
 
 /// A text writes one geometry, which lies on the grid in one way: what is put and written of it follows from its bytes.
-pub fn one_map()
-    ensures { (bytes : List ℕ) (raw other : RawGeometry) (g h : PlanarMap) → IsMapText bytes raw g → IsMapText bytes other h → (raw ≡ other) × (g ≡ h) }
+pub fn one_geometry()
+    ensures { (bytes : List ℕ) (raw other : RawGeometry) (g h : PlanarMap)
+        → IsGeometryText bytes raw g → IsGeometryText bytes other h
+        → (raw ≡ other) × (g ≡ h) }
 {}
 
 /// The run of an accepted geometry by no rule is stuck: some segment names a domain, whose front stays its boundary.
 pub fn accepted_is_stuck()
-    ensures { (raw : RawGeometry) (g : PlanarMap) → IsGeometryOf raw g → (run_of g).end ≡ Stuck }
+    ensures { (raw : RawGeometry) (input : MeshInput) → IsGeometryOf raw input.geometry
+        → (run_of input).end ≡ Stuck }
 {}
 
 /// What `geom` writes of a geometry is read again as the same geometry.
-pub fn drawn_again()
-    ensures { (raw : RawGeometry) (g : PlanarMap) → CanPrint raw → Derives (words_of (drawn_text raw g)) raw }
+pub fn shown_again()
+    ensures { (raw : RawGeometry) (g : PlanarMap) → CanPrint raw
+        → Derives (words_of (shown_text raw g)) raw }
 {}

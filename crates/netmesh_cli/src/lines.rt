@@ -21,7 +21,8 @@ fn push_number(text: &mut String, n: u32) -> Result<(), AllocError>
 
 /// The line of a form that is not built yet.
 fn not_yet_line(alloc: Global, part: u32) -> Result<Vec<u8>, AllocError>
-    ensures { IfOk result (λ line. line.items ≡ codes "refused notyet " ++ decimal part ++ codes "\n") }
+    ensures { IfOk result (λ line. line.items
+        ≡ codes "refused notyet " ++ decimal part ++ codes "\n") }
 {
     let mut text = String::new(alloc);
     text.push_str("refused notyet ")?;
@@ -32,7 +33,8 @@ fn not_yet_line(alloc: Global, part: u32) -> Result<Vec<u8>, AllocError>
 
 /// The line of a file that the folder refused.
 fn folder_line(alloc: Global, name: &[u8], fault: u32) -> Result<Vec<u8>, AllocError>
-    ensures { IfOk result (λ line. line.items ≡ codes "refused folder " ++ decimal fault ++ codes " " ++ name.now ++ codes "\n") }
+    ensures { IfOk result (λ line. line.items
+        ≡ codes "refused folder " ++ decimal fault ++ codes " " ++ name.now ++ codes "\n") }
 {
     let mut text = String::new(alloc);
     text.push_str("refused folder ")?;
@@ -71,7 +73,8 @@ fn words_number(fault: WordsFault) -> u8
 
 /// The line of words at fault.
 fn words_line(alloc: Global, fault: WordsFault) -> Result<Vec<u8>, AllocError>
-    ensures { IfOk result (λ line. line.items ≡ numbers_line (codes "words") (pos (words_number fault) ∷ [])) }
+    ensures { IfOk result (λ line. line.items
+        ≡ numbers_line (codes "words") (pos (words_number fault) ∷ [])) }
 {
     numbers_line(alloc, "words", &[i128::from(words_number(fault))])
 }
@@ -149,54 +152,5 @@ pub fn line_of(alloc: Global, refusal: &Refusal) -> Result<Vec<u8>, AllocError>
         Refusal::Folder { name, fault } => folder_line(alloc, name.as_slice(), *fault),
         Refusal::Out | Refusal::Memory => Ok(Vec::new(alloc)),
         Refusal::NotYet { part } => not_yet_line(alloc, *part),
-    }
-}
-
-#[cfg(test)]
-mod tests {
-    use super::*;
-    use grid_geom::RatPoint;
-    use std::test::Fail;
-
-    /// Whether the refusal writes this line.
-    fn writes(alloc: Global, refusal: Refusal, line: &str) -> Result<bool, AllocError> {
-        let written = line_of(alloc, &refusal)?;
-        Ok(written.as_slice() == line.as_bytes())
-    }
-
-    #[test]
-    fn lines_of_words_and_geometry_texts(rt: HostRuntime) -> Result<(), Fail> {
-        let alloc = rt.alloc();
-        let no_verb = Refusal::Words(WordsFault::NoVerb);
-        assert!(rt; writes(alloc, no_verb, "refused words 1\n")?);
-        let same_name = Refusal::Words(WordsFault::SameName);
-        assert!(rt; writes(alloc, same_name, "refused words 5\n")?);
-        let too_many = Refusal::In2d(In2dRefusal::TooMany { what: 2 });
-        assert!(rt; writes(alloc, too_many, "refused in2d 4 2\n")?);
-        let unknown = Refusal::In2d(In2dRefusal::UnknownPoint { segment: 10 });
-        assert!(rt; writes(alloc, unknown, "refused in2d 6 10\n")?);
-        Ok(())
-    }
-
-    #[test]
-    fn lines_of_geometries(rt: HostRuntime) -> Result<(), Fail> {
-        let alloc = rt.alloc();
-        let none = Refusal::Geometry(GeomRefusal::NoDomain);
-        assert!(rt; writes(alloc, none, "refused geometry 1\n")?);
-        let open = Refusal::Geometry(GeomRefusal::OpenAt {
-            point: 3,
-            domain: 1,
-        });
-        assert!(rt; writes(alloc, open, "refused geometry 7 3 1\n")?);
-        let at = RatPoint {
-            x: -160_000,
-            y: 320_000,
-            k: 1,
-        };
-        let side = Refusal::Geometry(GeomRefusal::Side { domain: 1, at });
-        assert!(rt; writes(alloc, side, "refused geometry 8 1 -160000 320000 1\n")?);
-        let overlap = Refusal::Geometry(GeomRefusal::Overlap { at });
-        assert!(rt; writes(alloc, overlap, "refused geometry 9 -160000 320000 1\n")?);
-        Ok(())
     }
 }

@@ -1,18 +1,27 @@
 //! Which files and which answer come of the files that the words name, and if none, why?
 //!
-//! So far each accepted geometry is written by `geom`, and each that gives no size is meshed by `mesh`,
-//! by a rule file without a rule.
+//! So far each accepted geometry is shown by `geom`, and meshed by `mesh`, by a rule file without a rule: its
+//! segments are cut by the sizes that it gives.
 //!
 //! 1. The words name the files. Each file is taken and read before the next is taken.
-//! 2. The log is put before the mesh, and the answer is written last.
-//! 3. A refusal has one cause, and before the first put it leaves the folder as it was. It writes one
+//! 2. What is put and written is made of values, between the last take and the first put: so it is a
+//!    function of what is held.
+//! 3. Files are put in one order, by `mesh` the log before the mesh, and the answer is written last.
+//! 4. A refusal has one cause, and before the first put it leaves the folder as it was. It writes one
 //!    line, but for an answer that isn't taken and for want of memory.
-//! 4. The work between takes and puts is done on values, so what is put is a function of what is held.
+//! 5. What a verb takes, puts and makes is one case of each table of `specs/Jobs.antt`; that a call keeps
+//!    1 to 4 is said and proved once, for all verbs.
 #![tactic(auto)]
+
+ghost use Rattle.std.specs.Prelude.{◌≡◌, ◌≢◌};
+ghost use Rattle.std.specs.Process.{exit_status};
+ghost use Rattle.std.specs.IoError.{error_kind};
+ghost use Rattle.netmesh_cli.specs.Status.{status_of};
 
 mod areas;
 mod asked;
 mod command;
+pub mod file_laws;
 mod files;
 mod form;
 mod forms;
@@ -21,14 +30,16 @@ mod geometry;
 pub mod geometry_laws;
 pub mod laws;
 mod lines;
+mod made;
 mod mesh;
 mod outcome;
 mod rule_file;
+mod serve;
 mod settings;
+mod texts;
 mod top;
 mod values;
 mod words_fault;
-mod work;
 
 pub use command::{Command, MeshOptions, Verb, read_words};
 use folder_io::{FolderDisk, SinkStd};
@@ -44,12 +55,10 @@ pub use words_fault::WordsFault;
 #[cfg(test)]
 mod command_tests;
 #[cfg(test)]
-mod geom_tests;
-#[cfg(test)]
 mod tests;
 
 /// The greatest number of bytes of a geometry file and of a rule file.
-pub const FILE_LIMIT: u64 = 1_048_576;
+const FILE_LIMIT: u64 = 1_048_576;
 
 /// The status where memory is refused to `main` itself.
 const NO_MEMORY: u8 = 7;
@@ -67,12 +76,22 @@ fn words_after_name(rt: &HostRuntime, alloc: Global) -> io::Result<Vec<String>> 
 }
 
 /// The status of words that can't be had.
-fn status_of_fault(fault: &io::Error) -> u8 {
+fn status_of_fault(fault: &io::Error) -> u8
+    ensures memory { error_kind fault.now ≡ ErrorKind.OutOfMemory → result ≡ 7 }
+    ensures other { error_kind fault.now ≢ ErrorKind.OutOfMemory → result ≡ 2 }
+{
     if fault.kind() == ErrorKind::OutOfMemory {
         NO_MEMORY
     } else {
         BAD_WORDS
     }
+}
+
+/// The status that the program ends with.
+fn exit_of(outcome: &Outcome) -> ExitCode
+    ensures { exit_status result ≡ status_of outcome.now }
+{
+    ExitCode::from(outcome.status())
 }
 
 fn main(rt: HostRuntime) -> ExitCode {
@@ -89,5 +108,5 @@ fn main(rt: HostRuntime) -> ExitCode {
     let mut folder = FolderDisk::new(for_folder, alloc);
     let mut out = SinkStd::new(for_sink);
     let outcome = netmesh(&rt, alloc, &words, &mut folder, &mut out, &NoGate);
-    ExitCode::from(outcome.status())
+    exit_of(&outcome)
 }

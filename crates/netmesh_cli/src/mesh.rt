@@ -1,55 +1,84 @@
-//! The verb `mesh`: takes the geometry and the rules, puts the log and then the mesh, and writes the summary line.
+//! The verb `mesh`: takes the geometry and the rules, and makes the log, the mesh and the summary line.
 
-ghost use Rattle.std.specs.Prelude.{◌≡◌, ◌≤◌, IfOk, IfErr};
-ghost use Rattle.folder_io.specs.Causes.{Rose, Told, ToldBoth};
-ghost use Rattle.netmesh_cli.specs.Words.{names_of};
-ghost use Rattle.netmesh_cli.specs.Accepted.{HoldsPlain};
-ghost use Rattle.netmesh_cli.specs.Course.{PlainRefused, Course, IsMeshed, IsSummary, WrittenBefore};
+ghost use Rattle.std.specs.Prelude.{◌≡◌, ◌≤◌, ◌∷◌, [], map, IfOk, IfErr};
+ghost use Rattle.folder_io.specs.Causes.{Told};
+ghost use Rattle.netmesh_cli.specs.Words.{no_options};
+ghost use Rattle.netmesh_cli.specs.Run.{outcome_of};
+ghost use Rattle.netmesh_cli.specs.Jobs.{IsMeshed, IsRunOutcome, MeshJob, made_of, put_of};
+ghost use Rattle.netmesh_cli.specs.Jobs.{names_of_puts, puts_of, task_of_mesh};
+ghost use Rattle.netmesh_cli.specs.Served.{MakeRefused};
 
-use super::command::MeshFiles;
-use super::geometry::{keeps_size, take_geometry};
+use super::command::MeshCall;
+use super::geometry::take_geometry;
+use super::made::{Made, Put};
 use super::rule_file::take_rules;
-use super::{Refusal, files, work};
-use folder_io::{Folder, Sink};
-use geom_check::Geometry;
+use super::texts::{Texts, run_texts};
+use super::{Outcome, Refusal};
+use folder_io::Folder;
 use mesh_run::End;
-use std::alloc::Global;
+use std::alloc::{AllocError, Global};
 
-/// The part that sizes are, which are not built yet.
-const SIZES_PART: u32 = 2;
-
-/// Takes the geometry and reads it. One that gives a size is refused.
-fn take_plain<F: Folder>(alloc: Global, folder: &mut F, name: &str) -> Result<Geometry, Refusal>
-    ensures held { F.held folder.new ≡ F.held folder.old }
-    ensures accepted { IfOk result (λ g. Told (F.held folder.old) (λ files. HoldsPlain files name.now g)) }
-    ensures refused { IfErr result (PlainRefused (F.held folder.old) name.now (Rose (F.faults folder.old) (F.faults folder.new) × (F.last folder.new ≡ name.now))) }
-    ensures rises { F.faults folder.old ≤ F.faults folder.new }
+/// The outcome of a run that ended so.
+fn outcome_of(end: End) -> Outcome
+    ensures outcome { result ≡ outcome_of end }
+    ensures ending { IsRunOutcome result }
 {
-    let drawing = take_geometry(alloc, folder, name)?;
-    if keeps_size(&drawing.raw) {
-        return Err(Refusal::NotYet { part: SIZES_PART });
+    match end {
+        End::Done => Outcome::Done,
+        End::Stuck => Outcome::Stuck,
+        End::Stopped => Outcome::Stopped,
     }
-    Ok(drawing.map)
 }
 
-/// Meshes a geometry, and says how its run ended.
-pub fn mesh<F: Folder, O: Sink>(
+/// The log is put before the mesh, and the line is the answer.
+fn made_of_texts<'a>(
     alloc: Global,
-    names: &MeshFiles,
-    folder: &mut F,
-    out: &mut O,
-) -> Result<End, Refusal>
-    ensures meshed { IfOk result (λ ended. ToldBoth (F.held folder.old) (F.held folder.new) (IsMeshed (names_of names.now) ended (O.written out.old) (O.written out.new))) }
-    ensures course { IfErr result (Course (names_of names.now) (F.held folder.old) (F.held folder.new) (λ name. Rose (F.faults folder.old) (F.faults folder.new) × (F.last folder.new ≡ name)) (Rose (O.faults out.old) (O.faults out.new))) }
-    ensures written { IfErr result (WrittenBefore (IsSummary (names_of names.now) (F.held folder.old)) (O.written out.old) (O.written out.new)) }
-    ensures rises { F.faults folder.old ≤ F.faults folder.new }
-    ensures rises_out { O.faults out.old ≤ O.faults out.new }
+    call: &MeshCall<'a>,
+    texts: Texts,
+) -> Result<Made<'a>, AllocError>
+    ensures puts { IfOk result (λ made. map put_of made.puts.items
+        ≡ record { name = call.now.log.now; bytes = texts.log.items }
+        ∷ record { name = call.now.mesh.now; bytes = texts.mesh.items } ∷ []) }
+    ensures answer { IfOk result (λ made. made.answer.items ≡ texts.line.items) }
+    ensures outcome { IfOk result (λ made. made.outcome ≡ outcome_of texts.end) }
+    ensures ending { IfOk result (λ made. IsRunOutcome made.outcome) }
 {
-    let geometry = take_plain(alloc, folder, names.geometry)?;
-    take_rules(alloc, folder, names.rules)?;
-    let texts = work::run_texts(alloc, &geometry)?;
-    files::put(alloc, folder, names.log, &texts.log)?;
-    files::put(alloc, folder, names.mesh, &texts.mesh)?;
-    files::answer(out, &texts.line)?;
-    Ok(texts.end)
+    let mut puts = Vec::new(alloc);
+    puts.push(Put {
+        name: call.log,
+        bytes: texts.log,
+    })?;
+    puts.push(Put {
+        name: call.mesh,
+        bytes: texts.mesh,
+    })?;
+    Ok(Made {
+        puts,
+        answer: texts.line,
+        outcome: outcome_of(texts.end),
+    })
+}
+
+/// What `mesh` makes of the geometry and the rules that it takes. So far it is given no option.
+pub fn make_mesh<'a, F: Folder>(
+    alloc: Global,
+    call: &MeshCall<'a>,
+    folder: &mut F,
+) -> Result<Made<'a>, Refusal>
+    requires { call.now.options ≡ no_options }
+    ensures held { (F.state folder.new).held ≡ (F.state folder.old).held }
+    ensures made { IfOk result (λ made. Told (F.state folder.old).held
+        (λ files. IsMeshed (task_of_mesh call.now) files (made_of made))) }
+    ensures puts { IfOk result (λ made. names_of_puts (map put_of made.puts.items)
+        ≡ puts_of (MeshJob (task_of_mesh call.now))) }
+    ensures ending { IfOk result (λ made. IsRunOutcome made.outcome) }
+    ensures refused { IfErr result (MakeRefused
+        (MeshJob (task_of_mesh call.now)) (F.state folder.old) (F.state folder.new)) }
+    ensures rises { (F.state folder.old).faults ≤ (F.state folder.new).faults }
+{
+    let read = take_geometry(alloc, folder, call.geometry)?;
+    take_rules(alloc, folder, call.rules)?;
+    let texts = run_texts(alloc, &read.geometry)?;
+    let made = made_of_texts(alloc, call, texts)?;
+    Ok(made)
 }

@@ -1,24 +1,29 @@
 //! The top call.
 
-ghost use Rattle.std.specs.Prelude.{◌≡◌, ◌≢◌, ◌≤◌, List, ℕ, map, string_bytes};
-ghost use Rattle.folder_io.specs.Causes.{Rose, Told};
+ghost use Rattle.std.specs.Prelude.{◌≡◌, ◌≤◌, map, string_bytes};
+ghost use Rattle.folder_io.specs.Causes.{Told, ToldBoth};
 ghost use Rattle.netmesh_cli.specs.declared.words_fault.WordsFault.{WordsFault as WordsFaultValue};
-ghost use Rattle.netmesh_cli.specs.Commands.{Task, GeomOf, IsCommand, IsFault};
-ghost use Rattle.netmesh_cli.specs.Words.{MeshNames, names_of, mesh_task, IsUnbuilt, AskForUnbuilt};
-ghost use Rattle.netmesh_cli.specs.Top.{IsNotYetOrMemory, IsWordsOrMemory, Telling, WordsAnswer, WordsCause, MeshAnswer, MeshExactly, GeomAnswer, GeomExactly, IfRefused, WritesLine, outcome_of};
+ghost use Rattle.netmesh_cli.specs.Commands.{MeshTask, MeshOf, IsCommand, IsFault};
+ghost use Rattle.netmesh_cli.specs.Words.{AskForUnbuilt};
+ghost use Rattle.netmesh_cli.specs.Causes.{IsUntaken, HasFailed};
+ghost use Rattle.netmesh_cli.specs.Jobs.{Job, MeshJob, IsBuilt, job_of, puts_of, task_of_job};
+ghost use Rattle.netmesh_cli.specs.Served.{AreApart};
+ghost use Rattle.netmesh_cli.specs.Top.{IsNotYetOrMemory, IsWordsOrMemory, Telling, WritesLine};
+ghost use Rattle.netmesh_cli.specs.Top.{WordsAnswer, WordsCause, Answers, Exactly, HoldsMesh};
+ghost use Rattle.netmesh_cli.specs.Top.{IfRefused, IfServed};
 
 use super::asked::{Asked, read_asked};
-use super::command::MeshFiles;
-use super::{Outcome, Refusal, geom, lines, mesh};
+use super::serve::serve;
+use super::{Outcome, Refusal, lines};
 use folder_io::{Folder, Sink, SinkFault};
-use mesh_run::{End, Gate};
+use mesh_run::Gate;
 use std::alloc::Global;
 use std::thread::Threads;
 
 /// Writes the line of a refusal, which stays what it is unless memory is refused for it.
 fn tell<O: Sink>(alloc: Global, out: &mut O, refusal: Refusal) -> Refusal
-    ensures told { Telling (O.written out.old) (O.written out.new) (Rose (O.faults out.old) (O.faults out.new)) refusal result }
-    ensures rises { O.faults out.old ≤ O.faults out.new }
+    ensures told { Telling (O.state out.old) (O.state out.new) refusal result }
+    ensures rises { (O.state out.old).faults ≤ (O.state out.new).faults }
 {
     if matches!(refusal, Refusal::Out | Refusal::Memory) {
         return refusal;
@@ -33,43 +38,25 @@ fn tell<O: Sink>(alloc: Global, out: &mut O, refusal: Refusal) -> Refusal
     }
 }
 
-/// The outcome of a run that ended so.
-fn outcome_of(end: End) -> Outcome
-    ensures { result ≡ outcome_of end }
-{
-    match end {
-        End::Done => Outcome::Done,
-        End::Stuck => Outcome::Stuck,
-        End::Stopped => Outcome::Stopped,
-    }
-}
-
-/// The verb `mesh`: the outcome, with the line of a refusal written.
-fn run_mesh<F: Folder, O: Sink>(
+/// The outcome of a verb, with the line of a refusal written.
+fn answered<F: Folder, O: Sink>(
     alloc: Global,
-    names: &MeshFiles,
+    asked: &Asked,
     folder: &mut F,
     out: &mut O,
 ) -> Outcome
-    requires { names.now.mesh.now ≢ names.now.log.now }
-    ensures answer { MeshAnswer (names_of names.now) result (F.held folder.old) (F.held folder.new) (O.written out.old) (O.written out.new) (λ name. Rose (F.faults folder.old) (F.faults folder.new) × (F.last folder.new ≡ name)) (Rose (O.faults out.old) (O.faults out.new)) }
-    ensures exactly { Told (F.held folder.old) (λ files. MeshExactly (names_of names.now) result files (Rose (F.faults folder.old) (F.faults folder.new)) (Rose (O.faults out.old) (O.faults out.new))) }
-    ensures line { IfRefused result (WritesLine (O.written out.old) (O.written out.new) (Rose (O.faults out.old) (O.faults out.new))) }
+    requires built { IsBuilt (job_of asked.now) }
+    requires apart { AreApart (puts_of (job_of asked.now)) }
+    ensures answers { Answers (job_of asked.now) result
+        (F.state folder.old) (F.state folder.new) (O.state out.old) (O.state out.new) }
+    ensures exactly { Told (F.state folder.old).held
+        (Exactly (job_of asked.now) result
+        (HasFailed (F.state folder.old) (F.state folder.new))
+        (IsUntaken (O.state out.old) (O.state out.new))) }
+    ensures line { IfRefused result (WritesLine (O.state out.old) (O.state out.new)) }
 {
-    match mesh::mesh(alloc, names, folder, out) {
-        Ok(end) => outcome_of(end),
-        Err(refusal) => Outcome::Refused(tell(alloc, out, refusal)),
-    }
-}
-
-/// The verb `geom`: the outcome, with the line of a refusal written.
-fn run_geom<F: Folder, O: Sink>(alloc: Global, name: &str, folder: &mut F, out: &mut O) -> Outcome
-    ensures answer { GeomAnswer name.now result (F.held folder.old) (F.held folder.new) (O.written out.old) (O.written out.new) (λ name. Rose (F.faults folder.old) (F.faults folder.new) × (F.last folder.new ≡ name)) (Rose (O.faults out.old) (O.faults out.new)) }
-    ensures exactly { Told (F.held folder.old) (λ files. GeomExactly name.now result files (Rose (F.faults folder.old) (F.faults folder.new)) (Rose (O.faults out.old) (O.faults out.new))) }
-    ensures line { IfRefused result (WritesLine (O.written out.old) (O.written out.new) (Rose (O.faults out.old) (O.faults out.new))) }
-{
-    match geom::geom(alloc, name, folder, out) {
-        Ok(()) => Outcome::Shown,
+    match serve(alloc, asked, folder, out) {
+        Ok(outcome) => outcome,
         Err(refusal) => Outcome::Refused(tell(alloc, out, refusal)),
     }
 }
@@ -80,8 +67,8 @@ fn run_geom<F: Folder, O: Sink>(alloc: Global, name: &str, folder: &mut F, out: 
 ///
 /// Refused are words at fault; `mesh` with an option, and the other verbs; a file that isn't there, is
 /// too long or can't be taken or put; a text of no geometry; a geometry that isn't accepted; and by
-/// `mesh` a geometry that gives a size above 0, bytes that are no rule file, and a rule file with a
-/// rule. A refusal writes its line. Where memory is refused the outcome says so, and no clause says when it may be.
+/// `mesh` bytes that are no rule file, and a rule file with a rule. A refusal writes its line. Where memory is refused the outcome says so, and no clause says when
+/// it may be.
 pub fn netmesh<R: Threads + Sync, F: Folder, O: Sink, G: Gate + Sync>(
     _rt: &R,
     alloc: Global,
@@ -91,24 +78,34 @@ pub fn netmesh<R: Threads + Sync, F: Folder, O: Sink, G: Gate + Sync>(
     _gate: &G,
 ) -> Outcome
     // Words.
-    ensures words_at_fault { (fault : WordsFaultValue) → IsFault (map string_bytes words.now) fault → WordsAnswer (IsWordsOrMemory fault) result (F.held folder.old) (F.held folder.new) }
-    ensures words_not_built { AskForUnbuilt (map string_bytes words.now) → WordsAnswer (IsNotYetOrMemory 1) result (F.held folder.old) (F.held folder.new) }
+    ensures words_at_fault { (fault : WordsFaultValue) → IsFault (map string_bytes words.now) fault
+        → WordsAnswer (IsWordsOrMemory fault) result (F.state folder.old) (F.state folder.new) }
+    ensures words_not_built { AskForUnbuilt (map string_bytes words.now)
+        → WordsAnswer (IsNotYetOrMemory 1) result (F.state folder.old) (F.state folder.new) }
     ensures words_cause { IfRefused result (WordsCause (map string_bytes words.now)) }
 
-    // `mesh`.
-    ensures mesh { (names : MeshNames) → IsCommand (map string_bytes words.now) (mesh_task names) → MeshAnswer names result (F.held folder.old) (F.held folder.new) (O.written out.old) (O.written out.new) (λ name. Rose (F.faults folder.old) (F.faults folder.new) × (F.last folder.new ≡ name)) (Rose (O.faults out.old) (O.faults out.new)) }
-    ensures mesh_exactly { (names : MeshNames) → IsCommand (map string_bytes words.now) (mesh_task names) → Told (F.held folder.old) (λ files. MeshExactly names result files (Rose (F.faults folder.old) (F.faults folder.new)) (Rose (O.faults out.old) (O.faults out.new))) }
+    // The verbs that are built.
+    ensures answers { (job : Job) → IsBuilt job → IsCommand (map string_bytes words.now) (task_of_job job)
+        → Answers job result
+        (F.state folder.old) (F.state folder.new) (O.state out.old) (O.state out.new) }
+    ensures exactly { (job : Job) → IsBuilt job → IsCommand (map string_bytes words.now) (task_of_job job)
+        → Told (F.state folder.old).held
+        (Exactly job result
+        (HasFailed (F.state folder.old) (F.state folder.new))
+        (IsUntaken (O.state out.old) (O.state out.new))) }
 
-    // `geom`.
-    ensures geom { (name : List ℕ) → IsCommand (map string_bytes words.now) (GeomOf name) → GeomAnswer name result (F.held folder.old) (F.held folder.new) (O.written out.old) (O.written out.new) (λ name. Rose (F.faults folder.old) (F.faults folder.new) × (F.last folder.new ≡ name)) (Rose (O.faults out.old) (O.faults out.new)) }
-    ensures geom_exactly { (name : List ℕ) → IsCommand (map string_bytes words.now) (GeomOf name) → Told (F.held folder.old) (λ files. GeomExactly name result files (Rose (F.faults folder.old) (F.faults folder.new)) (Rose (O.faults out.old) (O.faults out.new))) }
+    // `mesh`, where it isn't refused.
+    ensures mesh { (task : MeshTask) → IsBuilt (MeshJob task)
+        → IsCommand (map string_bytes words.now) (MeshOf task)
+        → IfServed result (λ outcome.
+        ToldBoth (F.state folder.old).held (F.state folder.new).held
+        (HoldsMesh task outcome (O.state out.old).written (O.state out.new).written)) }
 
     // A refusal's line.
-    ensures line { IfRefused result (WritesLine (O.written out.old) (O.written out.new) (Rose (O.faults out.old) (O.faults out.new))) }
+    ensures line { IfRefused result (WritesLine (O.state out.old) (O.state out.new)) }
 {
     match read_asked(alloc, words) {
-        Ok(Asked::Mesh(files)) => run_mesh(alloc, &files, folder, out),
-        Ok(Asked::Geom(name)) => run_geom(alloc, name, folder, out),
+        Ok(asked) => answered(alloc, &asked, folder, out),
         Err(refusal) => Outcome::Refused(tell(alloc, out, refusal)),
     }
 }

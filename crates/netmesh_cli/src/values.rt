@@ -4,7 +4,7 @@ ghost use Rattle.std.specs.Prelude.{◌≡◌, ℕ, Option, IfOk, IfErr};
 ghost use Rattle.std.specs.Option.{option_copied};
 ghost use Rattle.word_scan.specs.declared.decimals.Dec.{Dec};
 ghost use Rattle.netmesh_cli.specs.declared.command.MeshOptions.{MeshOptions};
-ghost use Rattle.netmesh_cli.specs.Reading.{given_of};
+ghost use Rattle.netmesh_cli.specs.WordsRead.{given_of};
 ghost use Rattle.netmesh_cli.specs.Commands.{IsWholeFrom, IsSize, HasValue, AreOptions};
 
 use super::WordsFault;
@@ -15,7 +15,8 @@ use word_scan::{Dec, decimal, whole};
 /// The whole number from `least` to `greatest` that the word writes.
 pub fn whole_from(word: &str, least: u64, greatest: u64) -> Result<u64, WordsFault>
     ensures ok { IfOk result (IsWholeFrom least greatest word.now) }
-    ensures fault { IfErr result (λ fault. (fault ≡ WordsFault.Value) × ((n : ℕ) → ¬ IsWholeFrom least greatest word.now n)) }
+    ensures fault { IfErr result (λ fault. (fault ≡ WordsFault.Value)
+        × ((n : ℕ) → ¬ IsWholeFrom least greatest word.now n)) }
 {
     match whole(word.as_bytes(), greatest) {
         None => Err(WordsFault::Value),
@@ -31,7 +32,8 @@ pub fn whole_from(word: &str, least: u64, greatest: u64) -> Result<u64, WordsFau
 /// The decimal above 0 that the word writes.
 fn size(word: &str) -> Result<Dec, WordsFault>
     ensures ok { IfOk result (IsSize word.now) }
-    ensures fault { IfErr result (λ fault. (fault ≡ WordsFault.Value) × ((size : Dec) → ¬ IsSize word.now size)) }
+    ensures fault { IfErr result (λ fault. (fault ≡ WordsFault.Value)
+        × ((size : Dec) → ¬ IsSize word.now size)) }
 {
     match decimal(word.as_bytes()) {
         None => Err(WordsFault::Value),
@@ -47,7 +49,8 @@ fn size(word: &str) -> Result<Dec, WordsFault>
 /// The decimal above 0 that an option is set to, where it is set.
 fn size_if_set(word: Option<&str>) -> Result<Option<Dec>, WordsFault>
     ensures ok { IfOk result (HasValue IsSize (option_copied word.entry)) }
-    ensures fault { IfErr result (λ fault. (fault ≡ WordsFault.Value) × ((value : Option Dec) → ¬ HasValue IsSize (option_copied word.entry) value)) }
+    ensures fault { IfErr result (λ fault. (fault ≡ WordsFault.Value)
+        × ((value : Option Dec) → ¬ HasValue IsSize (option_copied word.entry) value)) }
 {
     match word {
         None => Ok(None),
@@ -61,7 +64,9 @@ fn size_if_set(word: Option<&str>) -> Result<Option<Dec>, WordsFault>
 /// The whole number that an option is set to, where it is set.
 fn whole_if_set(word: Option<&str>, least: u64, greatest: u64) -> Result<Option<u64>, WordsFault>
     ensures ok { IfOk result (HasValue (IsWholeFrom least greatest) (option_copied word.entry)) }
-    ensures fault { IfErr result (λ fault. (fault ≡ WordsFault.Value) × ((value : Option ℕ) → ¬ HasValue (IsWholeFrom least greatest) (option_copied word.entry) value)) }
+    ensures fault { IfErr result (λ fault. (fault ≡ WordsFault.Value)
+        × ((value : Option ℕ)
+        → ¬ HasValue (IsWholeFrom least greatest) (option_copied word.entry) value)) }
 {
     match word {
         None => Ok(None),
@@ -75,7 +80,8 @@ fn whole_if_set(word: Option<&str>, least: u64, greatest: u64) -> Result<Option<
 /// The values of the options.
 pub fn options_of(settings: &Settings) -> Result<MeshOptions, WordsFault>
     ensures ok { IfOk result (AreOptions (given_of settings.now)) }
-    ensures fault { IfErr result (λ fault. (fault ≡ WordsFault.Value) × ((options : MeshOptions) → ¬ AreOptions (given_of settings.now) options)) }
+    ensures fault { IfErr result (λ fault. (fault ≡ WordsFault.Value)
+        × ((options : MeshOptions) → ¬ AreOptions (given_of settings.now) options)) }
 {
     let maxh = size_if_set(settings.maxh)?;
     let grading = whole_if_set(settings.grading, 0, 10_000)?;

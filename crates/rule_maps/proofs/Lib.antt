@@ -19,3 +19,5 @@ pub mod Idle
 pub mod Reaches
 -- Reach: what a rule uses lies in it.
 pub mod InReach
+-- Copies of mapped points are placed exactly.
+pub mod Exact

@@ -23,6 +23,9 @@ pub record Mapping : Type 0 where
   pub rule : Rule
   pub mapped : List Point
 
+abbrev pub mapping : LocalFrame → Rule → List Point → Mapping
+mapping frame rule mapped = record { frame = frame; rule = rule; mapped = mapped }
+
 -- a number of a rule's text
 abbrev pub number : ℤ → Fraction
 number n = record { top = n; bottom = pos 10000 }
@@ -101,3 +104,10 @@ pub record IsMapping (m : Mapping) : Type 0 where
   pub rule : IsRule m.rule
   pub count : length m.mapped ≡ length m.rule.points
   pub range : All (IsInRange m.frame) m.mapped
+
+-- a place that copies mapped point j: its place in the rule, and the rows { 1 Xj } { 1 Yj }
+pub record IsCopyOf (points : List MapPoint) (j : ℕ) (p : Place) : Type 0 where
+  pub x : p.x ≡ (point_at points j).x
+  pub y : p.y ≡ (point_at points j).y
+  pub row_x : p.row_x ≡ record { coefficient = pos 10000; of_y = false; point = j } ∷ []
+  pub row_y : p.row_y ≡ record { coefficient = pos 10000; of_y = true; point = j } ∷ []

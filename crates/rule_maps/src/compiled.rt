@@ -5,7 +5,7 @@ ghost use Rattle.std.specs.List.{All};
 ghost use Rattle.grid_geom.specs.Bounds.{IsOnGrid};
 ghost use Rattle.rule_reader.specs.Normal.{IsRule};
 ghost use Rattle.rule_maps.specs.Frame.{IsInRange};
-ghost use Rattle.rule_maps.specs.Places.{new_point, corner};
+ghost use Rattle.rule_maps.specs.Places.{mapping, new_point, corner};
 ghost use Rattle.rule_maps.specs.Inert.{IsLive, HasState};
 ghost use Rattle.rule_maps.specs.Reach.{IsReachOf};
 
@@ -39,7 +39,14 @@ impl<'a> Model for Compiled<'a> {
 
     ghost view = { λ c. c.rule.now };
 
-    ghost invariant = { λ c. IsCompiled c.rule.now (record { new_points = c.new_points.items; area = c.area.items; limit = c.limit.items; inert = c.inert; reach = c.reach }) };
+    ghost invariant = { λ c. IsCompiled c.rule.now
+        (record {
+          new_points = c.new_points.items;
+          area = c.area.items;
+          limit = c.limit.items;
+          inert = c.inert;
+          reach = c.reach;
+        }) };
 }
 
 /// Makes a rule fit for use. It takes memory for a few numbers of each new point and corner.
@@ -89,9 +96,9 @@ impl<'a> Compiled<'a> {
         requires last { k ≤ length self.now.new_points }
         requires count { length mapped.now ≡ length self.now.points }
         requires range { All (IsInRange f.now) mapped.now }
-        ensures placed { IfSome result (λ p. p ≡ new_point (record { frame = f.now; rule = self.now; mapped = mapped.now }) k) }
+        ensures placed { IfSome result (λ p. p ≡ new_point (mapping f.now self.now mapped.now) k) }
         ensures on { IfSome result IsOnGrid }
-        ensures off { IfNone result (¬ IsOnGrid (new_point (record { frame = f.now; rule = self.now; mapped = mapped.now }) k)) }
+        ensures off { IfNone result (¬ IsOnGrid (new_point (mapping f.now self.now mapped.now) k)) }
     {
         let place = &self.rule.new_points.as_slice()[k - 1];
         put(f, &numerators(&self.new_points[k - 1], place, f, mapped), 1)
@@ -106,9 +113,9 @@ impl<'a> Compiled<'a> {
         requires range { All (IsInRange f.now) mapped.now }
         requires class_least { 1 ≤ class }
         requires class_greatest { class ≤ 16 }
-        ensures placed { IfSome result (λ p. p ≡ corner (record { frame = f.now; rule = self.now; mapped = mapped.now }) k class) }
+        ensures placed { IfSome result (λ p. p ≡ corner (mapping f.now self.now mapped.now) k class) }
         ensures on { IfSome result IsOnGrid }
-        ensures off { IfNone result (¬ IsOnGrid (corner (record { frame = f.now; rule = self.now; mapped = mapped.now }) k class)) }
+        ensures off { IfNone result (¬ IsOnGrid (corner (mapping f.now self.now mapped.now) k class)) }
     {
         let place = &self.rule.area.as_slice()[k - 1];
         let wide = numerators(&self.area[k - 1], place, f, mapped);

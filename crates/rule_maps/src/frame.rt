@@ -36,9 +36,11 @@ impl Model for Frame {
 
     ghost Value = { LocalFrame };
 
-    ghost view = { λ f. record { p1 = f.p1; e = f.e; len = f.len; h = f.h; q = f.q; middle = f.middle } };
+    ghost view = { λ f.
+        record { p1 = f.p1; e = f.e; len = f.len; h = f.h; q = f.q; middle = f.middle } };
 
-    ghost invariant = { λ f. IsFrame (record { p1 = f.p1; e = f.e; len = f.len; h = f.h; q = f.q; middle = f.middle }) };
+    ghost invariant = { λ f. IsFrame
+        (record { p1 = f.p1; e = f.e; len = f.len; h = f.h; q = f.q; middle = f.middle }) };
 }
 
 /// Where a point is seen from a line: the scalar and the vector product of the line's direction and the way to it.

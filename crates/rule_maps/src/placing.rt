@@ -35,9 +35,11 @@ fn coordinate(from: &i64, offset: &Quotient) -> Option<i64>
     requires top { IsWithin TOP offset.now.top }
     requires positive { pos 0 <ℤ offset.now.bottom }
     requires bottom { offset.now.bottom ≤ℤ BOTTOM }
-    ensures some { IfSome result (λ z. z ≡ from.now +ℤ nearest (record { top = offset.now.top; bottom = offset.now.bottom })) }
+    ensures some { IfSome result (λ z. z ≡ from.now +ℤ
+        nearest (record { top = offset.now.top; bottom = offset.now.bottom })) }
     ensures on { IfSome result (IsWithin GRID) }
-    ensures none { IfNone result (¬ IsWithin GRID (from.now +ℤ nearest (record { top = offset.now.top; bottom = offset.now.bottom }))) }
+    ensures none { IfNone result (¬ IsWithin GRID (from.now +ℤ
+        nearest (record { top = offset.now.top; bottom = offset.now.bottom }))) }
 {
     let z = *from as i128 + round_div(offset.top, offset.bottom);
     if -(GRID as i128) <= z && z <= GRID as i128 {
@@ -86,9 +88,11 @@ pub(crate) fn put(f: &Frame, at: &PlaceNumerators, weight: u32) -> Option<Point>
     requires v { IsWithin MIXED at.now.v }
     requires least { 1 ≤ weight }
     requires greatest { weight ≤ WEIGHT }
-    ensures some { IfSome result (λ p. p ≡ put_at f.now at.now.u at.now.v (pos 100000000 *ℤ pos weight)) }
+    ensures some { IfSome result (λ p. p ≡
+        put_at f.now at.now.u at.now.v (pos 100000000 *ℤ pos weight)) }
     ensures on { IfSome result IsOnGrid }
-    ensures none { IfNone result (¬ IsOnGrid (put_at f.now at.now.u at.now.v (pos 100000000 *ℤ pos weight))) }
+    ensures none { IfNone result (¬ IsOnGrid
+        (put_at f.now at.now.u at.now.v (pos 100000000 *ℤ pos weight))) }
     ensures frame { IsFrame f.now }
 {
     let (p1, e) = (f.p1(), f.e());

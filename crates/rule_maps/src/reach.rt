@@ -17,7 +17,8 @@ const EXTENT: u64 = 10_000 * 160_000 + 32 * SHARE;
 fn share(term: &Term, points: &[MapPoint]) -> u64
     requires points { All IsMapPoint points.now }
     requires term { IsTerm (length points.now) term.now }
-    ensures value { result ≡ unsigned_abs term.now.coefficient * (130000 + unsigned_abs (rest_at points.now term.now)) }
+    ensures value { result ≡ unsigned_abs term.now.coefficient *
+        (130000 + unsigned_abs (rest_at points.now term.now)) }
     ensures small { result ≤ SHARE }
 {
     let rest = rest_of(term, points);

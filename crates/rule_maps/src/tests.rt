@@ -1,6 +1,8 @@
 //! Worked values: a frame, places of rules, inert rules.
 
-ghost use Rattle.std.specs.Prelude.{◌≤◌, length, IfOk};
+ghost use Rattle.std.specs.Prelude.{◌≤◌, ◌↔◌, length, IfOk, IsTrue};
+ghost use Rattle.std.specs.List.{All};
+ghost use Rattle.rule_maps.specs.Frame.{IsInRange};
 ghost use Rattle.rule_reader.specs.Normal.{CanPrint};
 
 use super::*;
@@ -29,11 +31,18 @@ fn base() -> Frame {
 /// The ends of that line.
 const ENDS: [Point; 2] = [Point { x: 0, y: 0 }, Point { x: 640_000, y: 0 }];
 
+/// Whether all points are in range.
+fn all_in_range(f: &Frame, points: &[Point]) -> bool
+    ensures { IsTrue result ↔ All (IsInRange f.now) points.now }
+{
+    points.iter().all(|p| f.is_in_range(*p))
+}
+
 /// The place of the only new point of a rule that maps two points.
 fn new_point(compiled: &Compiled<'_>, f: &Frame) -> Result<Option<Point>, Fail> {
     let rule = compiled.rule();
     let one = rule.new_points.as_slice().len() == 1 && rule.points.as_slice().len() == 2;
-    if one && ENDS.iter().all(|p| f.is_in_range(*p)) {
+    if one && all_in_range(f, &ENDS) {
         Ok(compiled.new_point(1, f, &ENDS))
     } else {
         Err("the rule has one new point, and the ends are in range".into())
@@ -45,9 +54,7 @@ fn corner(compiled: &Compiled<'_>, f: &Frame) -> Result<Option<Point>, Fail> {
     let rule = compiled.rule();
     let some = 4 <= rule.area.as_slice().len() && rule.points.as_slice().len() == 2;
     match compiled.inert() {
-        None if some && ENDS.iter().all(|p| f.is_in_range(*p)) => {
-            Ok(compiled.corner(4, f, &ENDS, 10))
-        }
+        None if some && all_in_range(f, &ENDS) => { Ok(compiled.corner(4, f, &ENDS, 10)) }
         _ => Err("the rule is live and has four corners, and the ends are in range".into()),
     }
 }

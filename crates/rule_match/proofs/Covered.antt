@@ -1,5 +1,5 @@
 -- The regions of a rule's points hold each assignment that fits.
-use Prim.Native.Nat.{ℕ, zero, suc, ◌+◌, ◌<◌, ◌≤◌}
+use Prim.Native.Nat.{ℕ, zero, suc, ◌+◌, ◌<◌}
 use native.Mathlib.Omega.{arith}
 use mathlib.Core.Path.{◌≡◌, refl, sym, subst, ap, ◌∙◌}
 use mathlib.Core.List.{List, [], ◌∷◌, ◌++◌}
@@ -59,9 +59,11 @@ from_here s k (v ∷ vs) ms pre [] e l r c h = absurd (omega (arith, l))
 from_here s k (v ∷ vs) [] pre (x ∷ b) e l r c h = absurd r
 from_here s k (v ∷ vs) (m ∷ ms) pre (x ∷ b) e l r c h =
     let g : (is_met (pre ++ x ∷ b) (point_tie s k m) ≡ true) × (list_all (is_met (pre ++ x ∷ b)) (point_ties s (k + 1) ms) ≡ true) = both (is_met (pre ++ x ∷ b) (point_tie s k m)) (list_all (is_met (pre ++ x ∷ b)) (point_ties s (k + 1) ms)) h in
-    let t : point_test s k m x ≡ true = sym (ap (λ (z : Option ℕ). option_map_or (λ ns. point_test s k m (slice_index_or ns 0 0)) (both_known z (Some [])) true) (get_at pre x b k e)) ∙ g.0 in
-    (r.0 x t, from_here s (k + 1) vs ms (pre ++ x ∷ []) b (omega (arith, e, longer pre x)) (omega (arith, l)) r.1 (omega (arith, c))
-      (subst (λ (z : List ℕ). list_all (is_met z) (point_ties s (k + 1) ms) ≡ true) (sym (append_assoc pre (x ∷ []) b)) g.1))
+    let t : point_test s k m x ≡ true = sym (ap (λ (z : Option ℕ). option_map_or (λ ns. point_test s k m (slice_index_or ns 0 0)) (both_known z (Some [])) true) (get_at pre x b k e)) ∙ g.0 in (
+      r.0 x t,
+      from_here s (k + 1) vs ms (pre ++ x ∷ []) b (omega (arith, e, longer pre x)) (omega (arith, l)) r.1 (omega (arith, c))
+          (subst (λ (z : List ℕ). list_all (is_met z) (point_ties s (k + 1) ms) ≡ true) (sym (append_assoc pre (x ∷ []) b)) g.1),
+    )
 
 -- each assignment that fits is of the regions
 pub covered : (s : Setting) (vs : List (Vec ℕ Global)) (b : List ℕ) → AreRegions s 0 vs s.rule.points → length vs ≡ length s.rule.points → length b ≡ length s.rule.points → fits_so_far (ties s) b ≡ true → AreOf vs b

@@ -9,8 +9,9 @@ pub mod Regions
 pub mod Places
 pub mod MoreNotes
 pub mod KeptOne
--- First points: Prefixes, what fails of them fails however they go on; Orders, the rule's order and the order of mapping; NextPoint, the tests when one point more is mapped; Covered, the regions of points.
+-- First points: Prefixes, what fails of them fails however they go on; Orders, the rule's order and the order of mapping; NextPoint, the tests when one point more is mapped; Covered, the regions of points; Tried, that a candidate's points meet each test.
 pub mod Prefixes
 pub mod Orders
 pub mod NextPoint
 pub mod Covered
+pub mod Tried

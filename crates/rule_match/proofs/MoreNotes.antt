@@ -11,7 +11,6 @@ use Rattle.grid_geom.specs.declared.Edge.{Edge}
 use Rattle.state_law.specs.Free.{IsIn}
 use Rattle.state_law.specs.State.{State, front_edges}
 use Rattle.state_law.specs.Refusal.{Attempt, HasReason, place_taken, not_turned, line_in_zone, line_hinders, outside_front, too_large}
-use Rattle.rule_match.specs.Candidate.{Maps}
 use Rattle.rule_match.specs.Candidate as trial
 use Rattle.rule_match.specs.declared.progress.Note.{Note}
 use Rattle.rule_match.specs.Refused.{is_noted, witnesses, IsExcused, places_of}
@@ -47,6 +46,6 @@ noted_more points keep more h (line ∷ front) w i = step (keep line) (more line
     step false true h k j = inr (k j)
     step false false h k j = k j
 
-pub excused_more : (maps : Maps) (st : State) (notes more : List Note) (t : trial.Attempt) → IsExcused maps st notes t → IsExcused maps st (notes ++ more) t
-excused_more maps st notes more t r = more_reasons st.points (front_edges st.points st.front) (witnesses st notes t) (witnesses st (notes ++ more) t) (places_of maps st t)
+pub excused_more : (st : State) (notes more : List Note) (t : trial.Attempt) → IsExcused st notes t → IsExcused st (notes ++ more) t
+excused_more st notes more t r = more_reasons st.points (front_edges st.points st.front) (witnesses st notes t) (witnesses st (notes ++ more) t) (places_of st t)
     (noted_more st.points (is_noted notes t.points) (is_noted (notes ++ more) t.points) (λ line h. any_more (λ note. nat_eq note.line line.0 && list_any (nat_eq note.point) t.points) notes more h) st.front) r

@@ -1,14 +1,11 @@
 -- The tests once more when one point more is mapped.
-use Prim.Native.Nat.{ℕ, zero, suc, ◌+◌, ◌<◌, ◌≤◌}
+use Prim.Native.Nat.{ℕ, zero, suc, ◌+◌, ◌<◌}
 use native.Mathlib.Omega.{arith}
-use mathlib.Core.Path.{◌≡◌, refl, sym, subst, ap, ◌∙◌}
-use mathlib.Core.Bool.{true≢false}
+use mathlib.Core.Path.{◌≡◌, refl, sym, ap, ◌∙◌}
 use mathlib.Core.List.{List, [], ◌∷◌, ◌++◌}
-use mathlib.Core.Logic.{◌⊎◌, inl, inr}
-use Rattle.std.specs.Prelude.{Bool, true, false, ◌&&◌, nat_eq, Option, None, Some, slice_get, slice_index_or, length, map}
+use Rattle.std.specs.Prelude.{Bool, true, false, ◌&&◌, Option, None, Some, slice_get, slice_index_or, length}
 use Rattle.std.specs.Option.{option_map_or}
-use Rattle.std.specs.List.{list_any, list_all}
-use Rattle.std.proofs.lemmas.Bool.{cases_order}
+use Rattle.std.specs.List.{list_all}
 use Rattle.rule_reader.specs.declared.rule.MapPoint.{MapPoint}
 use Rattle.rule_match.specs.Fitting.{Tie, both_known, is_met, are_different, fits_so_far}
 use Rattle.rule_match.specs.Trying.{Setting, point_test, point_tie, point_ties, other_ties, ties}
@@ -48,7 +45,7 @@ module _ (s : Setting) (b : List ℕ) (p : ℕ) where
   from_here k (m ∷ ms) zero d e h f =
       let i : k ≡ length b = omega (arith, e) in
       sym (ap (λ (z : Bool). z && list_all (is_met (b ++ p ∷ [])) (point_ties s (k + 1) ms)) (ap (at_get k m) (get_new b p k i))
-        ∙ (ap (λ (z : Bool). point_test s k m p && z) (later (k + 1) ms (omega (arith, i))) ∙ (and_true (point_test s k m p) ∙ ap (λ (z : ℕ). point_test s z m p) i)))
+      ∙ (ap (λ (z : Bool). point_test s k m p && z) (later (k + 1) ms (omega (arith, i))) ∙ (and_true (point_test s k m p) ∙ ap (λ (z : ℕ). point_test s z m p) i)))
     where
       and_true : (r : Bool) → (r && true) ≡ r
       and_true true = refl

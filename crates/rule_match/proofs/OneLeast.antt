@@ -14,7 +14,7 @@ use Rattle.size_field.specs.Size.{SizeField}
 use Rattle.state_law.specs.State.{State}
 use Rattle.rule_match.specs.declared.found.Found.{Found}
 use Rattle.rule_match.specs.Order.{badness_cmp, rank_cmp}
-use Rattle.rule_match.specs.Candidate.{Maps, Attempt}
+use Rattle.rule_match.specs.Candidate.{Attempt}
 use Rattle.rule_match.specs.Least.{IsLeast, rank}
 use Rattle.rule_match.proofs.RankOrder.{rank_total}
 
@@ -45,5 +45,5 @@ one_rank x y h k =
     let f : ordering_then (nat_cmp x.rule y.rule) (slice_cmp nat_cmp x.points y.points) ≡ Equal = then_level (badness_cmp x.badness y.badness) (ordering_then (nat_cmp x.rule y.rule) (slice_cmp nat_cmp x.points y.points)) e in
     (same_number x.rule y.rule (first_level (nat_cmp x.rule y.rule) (slice_cmp nat_cmp x.points y.points) f), exact_bytes x.points y.points (then_level (nat_cmp x.rule y.rule) (slice_cmp nat_cmp x.points y.points) f))
 
-pub one_least : (maps : Maps) (sizes : SizeField) (st : State) (rules : List Rule) (line class : ℕ) (t u : Attempt) → IsLeast maps sizes st rules line class t → IsLeast maps sizes st rules line class u → (t.rule ≡ u.rule) × (t.points ≡ u.points)
-one_least maps sizes st rules line class t u h k = one_rank (rank maps st t) (rank maps st u) (h.least u k.of k.candidate) (k.least t h.of h.candidate)
+pub one_least : (sizes : SizeField) (st : State) (rules : List Rule) (line class : ℕ) (t u : Attempt) → IsLeast sizes st rules line class t → IsLeast sizes st rules line class u → (t.rule ≡ u.rule) × (t.points ≡ u.points)
+one_least sizes st rules line class t u h k = one_rank (rank st t) (rank st u) (h.least u k.of k.candidate) (k.least t h.of h.candidate)

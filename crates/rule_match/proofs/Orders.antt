@@ -1,6 +1,6 @@
 -- Assignments in the rule's order and in the order of mapping.
 use Prim.Native.Nat.{ℕ, zero, suc, ◌<◌}
-use mathlib.Core.Path.{◌≡◌, refl, sym, subst, ap, ◌∙◌}
+use mathlib.Core.Path.{◌≡◌, refl, sym, ap, ◌∙◌}
 use mathlib.Core.Bool.{true≢false}
 use mathlib.Core.List.{List, [], ◌∷◌}
 use mathlib.Core.Logic.{inl, inr}

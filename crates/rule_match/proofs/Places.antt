@@ -21,7 +21,7 @@ use Rattle.state_law.specs.Refusal as refusal
 use Rattle.state_law.proofs.Lists.{all_map}
 use Rattle.state_law.proofs.Refused.{refuted}
 use Rattle.rule_match.specs.declared.progress.Note.{Note}
-use Rattle.rule_match.specs.Candidate.{Maps, Attempt, IsCandidate, made, zone, mapped_pair, IsFrontPoint, IsFrontPair, IsMappedLine}
+use Rattle.rule_match.specs.Candidate.{Attempt, IsCandidate, made, zone, mapped_pair, IsFrontPoint, IsFrontPair, IsMappedLine}
 use Rattle.rule_match.specs.Least.{IsOf}
 use Rattle.rule_match.specs.Refused.{places_of, IsAllowed, IsRefusedBy}
 
@@ -65,11 +65,11 @@ pair_of a b = (a, b)
 both : (a b d e : ℕ) → a ≡ d → b ≡ e → pair_of a b ≡ pair_of d e
 both a b d e f g = ap (λ (z : ℕ). pair_of z b) f ∙ ap (λ (z : ℕ). pair_of d z) g
 
-module _ (maps : Maps) (st : State) (t : Attempt) where
+module _ (st : State) (t : Attempt) where
   abbrev edge_of : ℕ × ℕ × ℕ → Edge
   edge_of line = pair_edge st.points (line.1, line.2)
 
-  pub allowed : IsCandidate maps st t → IsAllowed maps st t
+  pub allowed : IsCandidate st t → IsAllowed st t
   allowed c = record {
     live = c.live;
     quality = c.quality;
@@ -100,35 +100,35 @@ module _ (maps : Maps) (st : State) (t : Attempt) where
       same : (line : ℕ × ℕ × ℕ) (s : ℕ × ℕ) → line.1 ≡ s.0 → line.2 ≡ s.1 → pair_of line.1 line.2 ≡ s
       same line s e f = both line.1 line.2 s.0 s.1 e f
 
-  mapped_in : (line : ℕ × ℕ × ℕ) → IsMappedLine t line → IsIn (edge_of line) (places_of maps st t).lines
-  mapped_in line a = subst (λ (z : ℕ × ℕ). IsIn (pair_edge st.points z) (places_of maps st t).lines) a.4 (edge_in (λ (l : MapLine). pair_edge st.points (mapped_pair t.points l)) a.1 t.text.lines (a.0, a.2, a.3))
+  mapped_in : (line : ℕ × ℕ × ℕ) → IsMappedLine t line → IsIn (edge_of line) (places_of st t).lines
+  mapped_in line a = subst (λ (z : ℕ × ℕ). IsIn (pair_edge st.points z) (places_of st t).lines) a.4 (edge_in (λ (l : MapLine). pair_edge st.points (mapped_pair t.points l)) a.1 t.text.lines (a.0, a.2, a.3))
 
-  pub fits : IsCandidate maps st t → refusal.DoesFit (front_edges st.points st.front) (places_of maps st t)
+  pub fits : IsCandidate st t → refusal.DoesFit (front_edges st.points st.front) (places_of st t)
   fits c = record {
     points = all_mapped (IsFrontPoint st) (saved.IsFrontPoint (front_edges st.points st.front)) (point_at st.points) t.points (λ n r a. point_on n a) c.on_front;
     lines = all_mapped (λ (l : MapLine). IsFrontPair st (mapped_pair t.points l)) (λ e. IsIn e (front_edges st.points st.front)) (λ l. pair_edge st.points (mapped_pair t.points l)) t.text.lines (λ l r a. line_on l a) c.at_lines;
   }
 
-  pub by_places : IsCandidate maps st t → refusal.IsCandidate (λ a. Unit {0}) st.points (front_edges st.points st.front) (places_of maps st t)
+  pub by_places : IsCandidate st t → refusal.IsCandidate (λ a. Unit {0}) st.points (front_edges st.points st.front) (places_of st t)
   by_places c = record {
     allowed = tt;
     fits = fits c;
-    at_new_places = all_map (λ p. ¬ (Contains st.points p)) (λ p. ¬ (IsCorner p st.points)) (λ p n i. n (corner_contained p st.points i)) (made maps st t) c.made_new;
-    no_point_in_zone = all_mapped_known (λ e. refusal.IsEndFree (places_of maps st t) e.a × refusal.IsEndFree (places_of maps st t) e.b) edge_of st.front (λ line r.
+    at_new_places = all_map (λ p. ¬ (Contains st.points p)) (λ p. ¬ (IsCorner p st.points)) (λ p n i. n (corner_contained p st.points i)) (made st t) c.made_new;
+    no_point_in_zone = all_mapped_known (λ e. refusal.IsEndFree (places_of st t) e.a × refusal.IsEndFree (places_of st t) e.b) edge_of st.front (λ line r.
         (free line.1 (c.no_point_in_zone line.1 (r.0, line, r.1, r.2, inl refl)), free line.2 (c.no_point_in_zone line.2 (r.0, line, r.1, r.2, inr refl))));
-    no_line_in_zone = all_mapped (λ (line : ℕ × ℕ × ℕ). IsMappedLine t line ⊎ IsApart (point_at st.points line.1) (point_at st.points line.2) (zone maps st t)) (λ e. IsIn e (places_of maps st t).lines ⊎ IsApart e.a e.b (zone maps st t)) edge_of st.front (λ line r a. line_free line a) c.no_line_in_zone;
+    no_line_in_zone = all_mapped (λ (line : ℕ × ℕ × ℕ). IsMappedLine t line ⊎ IsApart (point_at st.points line.1) (point_at st.points line.2) (zone st t)) (λ e. IsIn e (places_of st t).lines ⊎ IsApart e.a e.b (zone st t)) edge_of st.front (λ line r a. line_free line a) c.no_line_in_zone;
     glued = c.glued;
   }
     where
-      free : (n : ℕ) → (Contains t.points n) ⊎ ¬ (IsInPolygon (whole (point_at st.points n)) (zone maps st t)) → refusal.IsEndFree (places_of maps st t) (point_at st.points n)
+      free : (n : ℕ) → (Contains t.points n) ⊎ ¬ (IsInPolygon (whole (point_at st.points n)) (zone st t)) → refusal.IsEndFree (places_of st t) (point_at st.points n)
       free n (inl i) = inl (number_corner st.points n t.points i)
       free n (inr i) = inr i
 
-      line_free : (line : ℕ × ℕ × ℕ) → IsMappedLine t line ⊎ IsApart (point_at st.points line.1) (point_at st.points line.2) (zone maps st t) → IsIn (edge_of line) (places_of maps st t).lines ⊎ IsApart (edge_of line).a (edge_of line).b (zone maps st t)
+      line_free : (line : ℕ × ℕ × ℕ) → IsMappedLine t line ⊎ IsApart (point_at st.points line.1) (point_at st.points line.2) (zone st t) → IsIn (edge_of line) (places_of st t).lines ⊎ IsApart (edge_of line).a (edge_of line).b (zone st t)
       line_free line (inl i) = inl (mapped_in line i)
       line_free line (inr i) = inr i
 
 -- a refused pair has no candidate
-pub refused_none : (maps : Maps) (sizes : SizeField) (st : State) (rules : List Rule) (line class : ℕ) (notes : List Note) → refusal.IsFront (front_edges st.points st.front) → IsRefusedBy maps sizes st rules line class notes →
-    (t : Attempt) → IsOf sizes st rules line class t → ¬ (IsCandidate maps st t)
-refused_none maps sizes st rules line class notes f r t o c = refuted (λ a. Unit {0}) st.points (front_edges st.points st.front) _ (places_of maps st t) f (r.excused t o (allowed maps st t c) (fits maps st t c)) (by_places maps st t c)
+pub refused_none : (sizes : SizeField) (st : State) (rules : List Rule) (line class : ℕ) (notes : List Note) → refusal.IsFront (front_edges st.points st.front) → IsRefusedBy sizes st rules line class notes →
+    (t : Attempt) → IsOf sizes st rules line class t → ¬ (IsCandidate st t)
+refused_none sizes st rules line class notes f r t o c = refuted (λ a. Unit {0}) st.points (front_edges st.points st.front) _ (places_of st t) f (r.excused t o (allowed st t c) (fits st t c)) (by_places st t c)

@@ -6,7 +6,7 @@ use Rattle.std.specs.Prelude.{ℕ, ◌+◌, List, [], ◌∷◌, ◌++◌, lengt
 use Rattle.grid_geom.specs.declared.Point.{Point}
 use Rattle.state_law.specs.State.{State}
 use Rattle.rule_match.specs.declared.application.Application.{Application}
-use Rattle.rule_match.specs.Candidate.{Maps, Attempt, nth, made}
+use Rattle.rule_match.specs.Candidate.{Attempt, nth, made}
 
 -- the numbers after n, one for each place
 abbrev pub numbers_from : ℕ → List Point → List ℕ
@@ -14,12 +14,12 @@ numbers_from n [] = []
 numbers_from n (p ∷ ps) = (n + 1) ∷ numbers_from (n + 1) ps
 
 -- rule point numbers replaced by the domain's, new points after the listed ones
-abbrev pub application : Maps → State → Attempt → Application
-application maps st t = record {
+abbrev pub application : State → Attempt → Application
+application st t = record {
   class = t.class;
   line = t.line.0;
   rule = t.rule;
   points = t.points;
-  made = made maps st t;
-  elements = map (map (nth (t.points ++ numbers_from (length st.points) (made maps st t)))) t.text.elements;
+  made = made st t;
+  elements = map (map (nth (t.points ++ numbers_from (length st.points) (made st t)))) t.text.elements;
 }

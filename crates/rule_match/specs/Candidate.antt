@@ -1,14 +1,13 @@
 -- When a rule applies at a line of the front: a class, a line, a rule and an assignment of front points to the rule's points.
 -- Origin: NETGEN's rule test (Schoeberl 1997). These definitions look at all front points and all front lines.
 --
--- Maps          what is taken from how rules place their points
 -- Attempt       a class, a line with its frame, a rule with its number, an assignment
--- mapped, locals, made, zone, elements   the places of an attempt
+-- mapped, locals, mapping, made, zone, elements   the places of an attempt
 -- IsTolerated   a deviation is within a tolerance at a class
 -- IsCandidate   the rule applies: its sentences are the fields, in the order in which they are looked at
 use lib.IntN.{ℤ, pos, ◌+ℤ◌, ◌-ℤ◌, ◌*ℤ◌}
 use lib.Signed.{◌<ℤ◌, ◌≤ℤ◌}
-use Rattle.std.specs.Prelude.{ℕ, ◌≡◌, ◌+◌, ◌*◌, ◌-◌, ◌≤◌, Bool, IsTrue, nat_eq, List, [], ◌∷◌, ◌++◌, length, map, slice_index_or, ◌⊎◌}
+use Rattle.std.specs.Prelude.{ℕ, ◌≡◌, ◌+◌, ◌*◌, ◌-◌, ◌≤◌, nat_eq, List, [], ◌∷◌, ◌++◌, length, map, slice_index_or, ◌⊎◌}
 use Rattle.std.specs.List.{AllByRecursion, Any, Contains, IsDistinct}
 use Rattle.grid_geom.specs.declared.Point.{Point}
 use Rattle.grid_geom.specs.Bounds.{IsOnGrid}
@@ -16,19 +15,16 @@ use Rattle.grid_geom.specs.Closed.{same_point}
 use Rattle.grid_geom.specs.Line.{whole}
 use Rattle.grid_geom.specs.Plane.{orient}
 use Rattle.grid_geom.specs.Polygon.{IsStrictlyConvex, IsInPolygon, IsApart}
+use Rattle.rule_maps.specs.Places.{Mapping, new_point, corner}
+use Rattle.rule_maps.specs.Inert.{IsLive}
 use Rattle.rule_maps.specs.Frame.{LocalFrame, local4_x, local4_y, IsInRange}
 use Rattle.rule_reader.specs.declared.rule.Rule.{Rule}
+use Rattle.rule_reader.specs.declared.rule.Place.{Place}
 use Rattle.rule_reader.specs.declared.rule.Triple.{Triple}
 use Rattle.rule_reader.specs.declared.rule.MapPoint.{MapPoint}
 use Rattle.rule_reader.specs.declared.rule.MapLine.{MapLine}
 use Rattle.state_law.specs.State.{State, point_at, front_edges, corners_of}
 use Rattle.state_law.specs.Gluing.{MayAllBeGlued}
-
--- what is taken from how rules place their points: which rules are live, and the new points and the zone's corners at a frame and mapped points
-pub record Maps : Type 0 where
-  pub is_live : Rule → Bool
-  pub made : Rule → LocalFrame → List Point → List Point
-  pub corners : Rule → LocalFrame → ℕ → List Point → List Point
 
 -- a class, a front line (number, from, to) with its local frame, a rule with its number, and an assignment: the numbers of the mapped points in the rule's order
 pub record Attempt : Type 0 where
@@ -54,15 +50,28 @@ local4 f p = record { x = local4_x f p; y = local4_y f p }
 abbrev pub locals : State → Attempt → List Point
 locals st t = map (local4 t.frame) (mapped st t)
 
-abbrev pub made : Maps → State → Attempt → List Point
-made maps st t = maps.made t.text t.frame (mapped st t)
+abbrev pub mapping : State → Attempt → Mapping
+mapping st t = record { frame = t.frame; rule = t.text; mapped = mapped st t }
 
-abbrev pub zone : Maps → State → Attempt → List Point
-zone maps st t = maps.corners t.text t.frame t.class (mapped st t)
+-- the places of the new points from number k on
+abbrev pub made_from : Mapping → ℕ → List Place → List Point
+made_from m k [] = []
+made_from m k (p ∷ ps) = new_point m k ∷ made_from m (k + 1) ps
+
+abbrev pub made : State → Attempt → List Point
+made st t = made_from (mapping st t) 1 t.text.new_points
+
+-- the places of the zone's corners at the class from number k on
+abbrev pub zone_from : Mapping → ℕ → ℕ → List Place → List Point
+zone_from m class k [] = []
+zone_from m class k (p ∷ ps) = corner m k class ∷ zone_from m class (k + 1) ps
+
+abbrev pub zone : State → Attempt → List Point
+zone st t = zone_from (mapping st t) t.class 1 t.text.area
 
 -- the corners of the elements; rule points after the mapped ones are the new points
-abbrev pub elements : Maps → State → Attempt → List (List Point)
-elements maps st t = map (corners_of (mapped st t ++ made maps st t)) t.text.elements
+abbrev pub elements : State → Attempt → List (List Point)
+elements st t = map (corners_of (mapped st t ++ made st t)) t.text.elements
 
 -- the pair of numbers that the rule's line is mapped to
 abbrev pub mapped_pair : List ℕ → MapLine → ℕ × ℕ
@@ -108,9 +117,9 @@ abbrev pub IsMappedLine : Attempt → ℕ × ℕ × ℕ → Type 0
 IsMappedLine t line = Any (λ l. mapped_pair t.points l ≡ (line.1, line.2)) t.text.lines
 
 -- the attempt is a candidate of the state
-pub record IsCandidate (maps : Maps) (st : State) (t : Attempt) : Type 0 where
+pub record IsCandidate (st : State) (t : Attempt) : Type 0 where
   -- the rule is live and of quality at most the class
-  pub live : IsTrue (maps.is_live t.text)
+  pub live : IsLive t.text
   pub quality : t.text.quality ≤ t.class
   -- different front points in range, one per mapped point
   pub counted : length t.points ≡ length t.text.points
@@ -127,14 +136,14 @@ pub record IsCandidate (maps : Maps) (st : State) (t : Attempt) : Type 0 where
   -- the orientations
   pub turned : AllByRecursion (λ n. pos 0 <ℤ orient (point_at (mapped st t) n.0) (point_at (mapped st t) n.1) (point_at (mapped st t) n.2)) t.text.turns
   -- the new points: on the grid, at no listed point, different
-  pub made_on_grid : AllByRecursion IsOnGrid (made maps st t)
-  pub made_new : AllByRecursion (λ p. ¬ (Contains st.points p)) (made maps st t)
-  pub made_different : IsDistinct same_point (made maps st t)
+  pub made_on_grid : AllByRecursion IsOnGrid (made st t)
+  pub made_new : AllByRecursion (λ p. ¬ (Contains st.points p)) (made st t)
+  pub made_different : IsDistinct same_point (made st t)
   -- the zone: on the grid, strictly convex
-  pub zone_on_grid : AllByRecursion IsOnGrid (zone maps st t)
-  pub zone_convex : IsStrictlyConvex (zone maps st t)
+  pub zone_on_grid : AllByRecursion IsOnGrid (zone st t)
+  pub zone_convex : IsStrictlyConvex (zone st t)
   -- no front point but the mapped ones in the open zone, each front line but the mapped ones apart from it
-  pub no_point_in_zone : (n : ℕ) → IsFrontPoint st n → (Contains t.points n) ⊎ ¬ (IsInPolygon (whole (point_at st.points n)) (zone maps st t))
-  pub no_line_in_zone : AllByRecursion (λ line. IsMappedLine t line ⊎ IsApart (point_at st.points line.1) (point_at st.points line.2) (zone maps st t)) st.front
+  pub no_point_in_zone : (n : ℕ) → IsFrontPoint st n → (Contains t.points n) ⊎ ¬ (IsInPolygon (whole (point_at st.points n)) (zone st t))
+  pub no_line_in_zone : AllByRecursion (λ line. IsMappedLine t line ⊎ IsApart (point_at st.points line.1) (point_at st.points line.2) (zone st t)) st.front
   -- the elements, one after another
-  pub glued : MayAllBeGlued (elements maps st t) (front_edges st.points st.front)
+  pub glued : MayAllBeGlued (elements st t) (front_edges st.points st.front)

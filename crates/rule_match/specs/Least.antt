@@ -21,7 +21,7 @@ use Rattle.rule_maps.specs.Frame.{IsFrameOf}
 use Rattle.rule_match.specs.declared.badness.Badness.{Badness}
 use Rattle.rule_match.specs.declared.found.Found.{Found}
 use Rattle.rule_match.specs.Order.{badness_cmp, rank_cmp}
-use Rattle.rule_match.specs.Candidate.{Maps, Attempt, IsCandidate, elements}
+use Rattle.rule_match.specs.Candidate.{Attempt, IsCandidate, elements}
 
 abbrev pub square : ℤ → ℕ
 square z = unsigned_abs z * unsigned_abs z
@@ -45,8 +45,8 @@ worst x [] = x
 worst x (corners ∷ elements) = worst (worse x (badness_of corners)) elements
 
 -- what is compared of the candidates of one line and class
-abbrev pub rank : Maps → State → Attempt → Found
-rank maps st t = record { badness = worst (record { squares = 0; area = 1 }) (elements maps st t); rule = t.rule; points = t.points }
+abbrev pub rank : State → Attempt → Found
+rank st t = record { badness = worst (record { squares = 0; area = 1 }) (elements st t); rule = t.rule; points = t.points }
 
 -- the attempt is one on the front line with the number, with its frame at the size at its middle, at the class, by a rule of the list with its number
 pub record IsOf (sizes : SizeField) (st : State) (rules : List Rule) (line class : ℕ) (t : Attempt) : Type 0 where
@@ -58,11 +58,11 @@ pub record IsOf (sizes : SizeField) (st : State) (rules : List Rule) (line class
   pub is_rule : slice_get rules (t.rule - 1) ≡ Some t.text
 
 -- the least candidate of the line at the class
-pub record IsLeast (maps : Maps) (sizes : SizeField) (st : State) (rules : List Rule) (line class : ℕ) (t : Attempt) : Type 0 where
+pub record IsLeast (sizes : SizeField) (st : State) (rules : List Rule) (line class : ℕ) (t : Attempt) : Type 0 where
   pub of : IsOf sizes st rules line class t
-  pub candidate : IsCandidate maps st t
-  pub least : (other : Attempt) → IsOf sizes st rules line class other → IsCandidate maps st other → is_gt (rank_cmp (rank maps st t) (rank maps st other)) ≡ false
+  pub candidate : IsCandidate st t
+  pub least : (other : Attempt) → IsOf sizes st rules line class other → IsCandidate st other → is_gt (rank_cmp (rank st t) (rank st other)) ≡ false
 
 -- none of the line's attempts at the class is a candidate
-pub record HasNone (maps : Maps) (sizes : SizeField) (st : State) (rules : List Rule) (line class : ℕ) : Type 0 where
-  pub none : (t : Attempt) → IsOf sizes st rules line class t → IsCandidate maps st t → ⊥
+pub record HasNone (sizes : SizeField) (st : State) (rules : List Rule) (line class : ℕ) : Type 0 where
+  pub none : (t : Attempt) → IsOf sizes st rules line class t → IsCandidate st t → ⊥

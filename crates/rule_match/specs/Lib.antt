@@ -9,6 +9,7 @@ pub mod Least
 pub mod Refused
 -- Walk: what a search promises.
 pub mod Walk
--- Fitting: which first points of an assignment may go on. Trying: the tests of a rule's points.
+-- Fitting: which first points of an assignment may go on. Trying: the tests of a rule's points. Around: that near points and lines are those of the front.
 pub mod Fitting
 pub mod Trying
+pub mod Around

@@ -5,7 +5,7 @@
 -- IsExcused        the attempt is no candidate, for a reason that the notes hold
 -- IsRefusedBy      each allowed attempt that fits the front is excused
 -- IsRefusedAgain   the same of those that map a fresh point
-use Rattle.std.specs.Prelude.{ℕ, ◌≡◌, ◌≤◌, IsTrue, nat_eq, List, length, map, pos, Bool, ◌&&◌, filter}
+use Rattle.std.specs.Prelude.{ℕ, ◌≡◌, ◌≤◌, nat_eq, List, length, map, pos, Bool, ◌&&◌, filter}
 use lib.Signed.{◌<ℤ◌}
 use Rattle.std.specs.List.{AllByRecursion, Any, Contains, IsDistinct, list_any}
 use Rattle.grid_geom.specs.declared.Edge.{Edge}
@@ -15,26 +15,27 @@ use Rattle.grid_geom.specs.Plane.{orient}
 use Rattle.grid_geom.specs.Polygon.{IsStrictlyConvex}
 use Rattle.rule_reader.specs.declared.rule.Rule.{Rule}
 use Rattle.size_field.specs.Size.{SizeField}
+use Rattle.rule_maps.specs.Inert.{IsLive}
 use Rattle.rule_maps.specs.Frame.{IsInRange}
 use Rattle.state_law.specs.State.{State, point_at, pair_edge, front_edges}
 use Rattle.state_law.specs.Refusal as refusal
 use Rattle.rule_match.specs.declared.progress.Note.{Note}
-use Rattle.rule_match.specs.Candidate.{Maps, Attempt, mapped, locals, made, zone, elements, nth, mapped_pair, AreTolerated, IsLineTolerated}
+use Rattle.rule_match.specs.Candidate.{Attempt, mapped, locals, made, zone, elements, nth, mapped_pair, AreTolerated, IsLineTolerated}
 use Rattle.rule_match.specs.Least.{IsOf}
 
 -- the attempt by its places
-abbrev pub places_of : Maps → State → Attempt → refusal.Attempt
-places_of maps st t = record {
+abbrev pub places_of : State → Attempt → refusal.Attempt
+places_of st t = record {
   mapped = mapped st t;
   lines = map (λ l. pair_edge st.points (mapped_pair t.points l)) t.text.lines;
-  made = made maps st t;
-  zone = zone maps st t;
-  elements = elements maps st t;
+  made = made st t;
+  zone = zone st t;
+  elements = elements st t;
 }
 
 -- the sentences of `IsCandidate` that look at places alone: no application changes them
-pub record IsAllowed (maps : Maps) (st : State) (t : Attempt) : Type 0 where
-  pub live : IsTrue (maps.is_live t.text)
+pub record IsAllowed (st : State) (t : Attempt) : Type 0 where
+  pub live : IsLive t.text
   pub quality : t.text.quality ≤ t.class
   pub counted : length t.points ≡ length t.text.points
   pub different : IsDistinct nat_eq t.points
@@ -44,10 +45,10 @@ pub record IsAllowed (maps : Maps) (st : State) (t : Attempt) : Type 0 where
   pub points_tolerated : AreTolerated t.class (locals st t) t.text.points
   pub lines_tolerated : AllByRecursion (IsLineTolerated t.class (locals st t) t.text.points) t.text.lines
   pub turned : AllByRecursion (λ n. pos 0 <ℤ orient (point_at (mapped st t) n.0) (point_at (mapped st t) n.1) (point_at (mapped st t) n.2)) t.text.turns
-  pub made_on_grid : AllByRecursion IsOnGrid (made maps st t)
-  pub made_different : IsDistinct same_point (made maps st t)
-  pub zone_on_grid : AllByRecursion IsOnGrid (zone maps st t)
-  pub zone_convex : IsStrictlyConvex (zone maps st t)
+  pub made_on_grid : AllByRecursion IsOnGrid (made st t)
+  pub made_different : IsDistinct same_point (made st t)
+  pub zone_on_grid : AllByRecursion IsOnGrid (zone st t)
+  pub zone_convex : IsStrictlyConvex (zone st t)
 
 -- the line is noted beside one of the points
 abbrev pub is_noted : List Note → List ℕ → ℕ × ℕ × ℕ → Bool
@@ -58,14 +59,14 @@ abbrev pub witnesses : State → List Note → Attempt → List Edge
 witnesses st notes t = front_edges st.points (filter (is_noted notes t.points) st.front)
 
 -- the reason why the attempt is no candidate: a front line that hinders it is noted beside a point that it maps
-abbrev pub IsExcused : Maps → State → List Note → Attempt → Type 0
-IsExcused maps st notes t = refusal.HasReason st.points (front_edges st.points st.front) (witnesses st notes t) (places_of maps st t)
+abbrev pub IsExcused : State → List Note → Attempt → Type 0
+IsExcused st notes t = refusal.HasReason st.points (front_edges st.points st.front) (witnesses st notes t) (places_of st t)
 
 -- each allowed attempt that fits the front has its reason
-pub record IsRefusedBy (maps : Maps) (sizes : SizeField) (st : State) (rules : List Rule) (line class : ℕ) (notes : List Note) : Type 0 where
-  pub excused : (t : Attempt) → IsOf sizes st rules line class t → IsAllowed maps st t → refusal.DoesFit (front_edges st.points st.front) (places_of maps st t) → IsExcused maps st notes t
+pub record IsRefusedBy (sizes : SizeField) (st : State) (rules : List Rule) (line class : ℕ) (notes : List Note) : Type 0 where
+  pub excused : (t : Attempt) → IsOf sizes st rules line class t → IsAllowed st t → refusal.DoesFit (front_edges st.points st.front) (places_of st t) → IsExcused st notes t
 
 -- the same of the attempts that map one of the fresh points
-pub record IsRefusedAgain (maps : Maps) (sizes : SizeField) (st : State) (rules : List Rule) (line class : ℕ) (fresh : List ℕ) (notes : List Note) : Type 0 where
-  pub excused : (t : Attempt) → IsOf sizes st rules line class t → IsAllowed maps st t → refusal.DoesFit (front_edges st.points st.front) (places_of maps st t) →
-      Any (λ p. Contains fresh p) t.points → IsExcused maps st notes t
+pub record IsRefusedAgain (sizes : SizeField) (st : State) (rules : List Rule) (line class : ℕ) (fresh : List ℕ) (notes : List Note) : Type 0 where
+  pub excused : (t : Attempt) → IsOf sizes st rules line class t → IsAllowed st t → refusal.DoesFit (front_edges st.points st.front) (places_of st t) →
+      Any (λ p. Contains fresh p) t.points → IsExcused st notes t

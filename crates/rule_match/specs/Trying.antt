@@ -5,11 +5,11 @@
 -- point_test      a near point may be mapped at this position: it is an end of the base line where it must be, and tolerated
 -- line_test       two near points are joined by a front line that is tolerated
 -- turn_test       three near points turn counterclockwise
--- ties            all these tests
+-- ties            all these tests; `starts`: nothing mapped yet passes them
 use lib.IntN.{ℤ, pos, ◌-ℤ◌}
 use lib.Signed.{le_z, lt_z}
-use Rattle.std.specs.Prelude.{ℕ, zero, suc, ◌+◌, ◌-◌, ◌*◌, Bool, true, ◌&&◌, nat_eq, nat_lt, List, [], ◌∷◌, ◌++◌, length, map, slice_index_or}
-use Rattle.std.specs.List.{list_any}
+use Rattle.std.specs.Prelude.{◌≡◌, refl, ℕ, zero, suc, ◌+◌, ◌-◌, ◌*◌, Bool, true, ◌&&◌, nat_eq, nat_lt, List, [], ◌∷◌, ◌++◌, length, map, slice_index_or}
+use Rattle.std.specs.List.{list_any, list_all}
 use Rattle.grid_geom.specs.Plane.{orient}
 use Rattle.rule_reader.specs.declared.rule.Rule.{Rule}
 use Rattle.rule_reader.specs.declared.rule.Triple.{Triple}
@@ -17,7 +17,7 @@ use Rattle.rule_reader.specs.declared.rule.MapPoint.{MapPoint}
 use Rattle.rule_reader.specs.declared.rule.MapLine.{MapLine}
 use Rattle.rule_match.specs.declared.near.NearPoint.{NearPoint}
 use Rattle.rule_match.specs.Candidate.{measure, rule_place}
-use Rattle.rule_match.specs.Fitting.{Tie}
+use Rattle.rule_match.specs.Fitting.{Tie, is_met, fits_so_far}
 
 -- a rule tried on a base line, by the numbers of its ends, at a class, with the near points and the front lines between them
 pub record Setting : Type 0 where
@@ -60,8 +60,8 @@ abbrev pub line_test : Setting → MapLine → NearPoint → NearPoint → Bool
 line_test s l a b =
     list_any (does_go a.number b.number) s.lines
     && is_tolerated s.class l.tol
-        ((b.x -ℤ a.x) -ℤ ((rule_place s.rule.points l.j).x -ℤ (rule_place s.rule.points l.i).x))
-        ((b.y -ℤ a.y) -ℤ ((rule_place s.rule.points l.j).y -ℤ (rule_place s.rule.points l.i).y))
+    ((b.x -ℤ a.x) -ℤ ((rule_place s.rule.points l.j).x -ℤ (rule_place s.rule.points l.i).x))
+    ((b.y -ℤ a.y) -ℤ ((rule_place s.rule.points l.j).y -ℤ (rule_place s.rule.points l.i).y))
 
 abbrev pub turn_test : NearPoint → NearPoint → NearPoint → Bool
 turn_test a b c = lt_z (pos 0) (orient a.at b.at c.at)
@@ -88,3 +88,19 @@ other_ties s = map (line_tie s) s.rule.lines ++ map (turn_tie s) s.rule.turns
 
 abbrev pub ties : Setting → List Tie
 ties s = point_ties s 0 s.rule.points ++ other_ties s
+
+-- ---- with no point mapped yet no test can be made
+start_points : (s : Setting) (k : ℕ) (ms : List MapPoint) (rest : List Tie) → list_all (is_met []) rest ≡ true → list_all (is_met []) (point_ties s k ms ++ rest) ≡ true
+start_points s k [] rest h = h
+start_points s k (m ∷ ms) rest h = start_points s (k + 1) ms rest h
+
+start_lines : (s : Setting) (ls : List MapLine) (rest : List Tie) → list_all (is_met []) rest ≡ true → list_all (is_met []) (map (line_tie s) ls ++ rest) ≡ true
+start_lines s [] rest h = h
+start_lines s (l ∷ ls) rest h = start_lines s ls rest h
+
+start_turns : (s : Setting) (ns : List (ℕ × ℕ × ℕ)) → list_all (is_met []) (map (turn_tie s) ns) ≡ true
+start_turns s [] = refl
+start_turns s (n ∷ ns) = start_turns s ns
+
+pub starts : (s : Setting) → fits_so_far (ties s) [] ≡ true
+starts s = start_points s 0 s.rule.points (other_ties s) (start_lines s s.rule.lines (map (turn_tie s) s.rule.turns) (start_turns s s.rule.turns))

@@ -1,6 +1,6 @@
 //! Laws of candidates, each the contract of a function that does nothing.
 
-ghost use Rattle.std.specs.Prelude.{ℕ, List, ◌++◌, ◌≡◌, true, length};
+ghost use Rattle.std.specs.Prelude.{ℕ, List, [], ◌++◌, ◌≡◌, true, length};
 ghost use Rattle.rule_reader.specs.declared.rule.Rule.{Rule};
 ghost use Rattle.size_field.specs.Size.{SizeField};
 ghost use Rattle.state_law.specs.State.{State, front_edges};
@@ -10,29 +10,32 @@ ghost use Rattle.state_law.specs.Gluing.{glue_all};
 ghost use Rattle.grid_geom.specs.declared.Point.{Point};
 ghost use Rattle.grid_geom.specs.declared.Edge.{Edge};
 ghost use Rattle.rule_match.specs.declared.progress.Note.{Note as Noted};
-ghost use Rattle.rule_match.specs.Candidate.{Maps, Attempt, IsCandidate};
+ghost use Rattle.rule_match.specs.Candidate.{Attempt, IsCandidate};
 ghost use Rattle.rule_match.specs.Least.{HasNone, IsLeast};
 ghost use Rattle.rule_match.specs.Refused.{IsRefusedBy, IsExcused};
+ghost use Rattle.rule_match.specs.declared.near.NearPoint.{NearPoint as NearOne};
+ghost use Rattle.rule_match.specs.Trying.{Setting, ties};
+ghost use Rattle.rule_match.specs.Around.{IsAround, setting_of, IsTried};
 ghost use Rattle.rule_match.specs.Fitting.{Tie, fits_so_far, in_order, IsOrder, renumbered, DoesFit};
 
 /// A line has at most one least candidate at a class: its rule and its assignment are fixed.
 pub fn law_one()
-    ensures { (maps : Maps) (sizes : SizeField) (st : State) (rules : List Rule) (line class : ℕ) (t u : Attempt) →
-        IsLeast maps sizes st rules line class t → IsLeast maps sizes st rules line class u →
+    ensures { (sizes : SizeField) (st : State) (rules : List Rule) (line class : ℕ) (t u : Attempt) →
+        IsLeast sizes st rules line class t → IsLeast sizes st rules line class u →
         (t.rule ≡ u.rule) × (t.points ≡ u.points) }
 {}
 
 /// A pair of line and class that is refused has no candidate.
 pub fn law_none()
-    ensures { (maps : Maps) (sizes : SizeField) (st : State) (rules : List Rule) (line class : ℕ) (notes : List Noted) →
-        IsFront (front_edges st.points st.front) → IsRefusedBy maps sizes st rules line class notes →
-        HasNone maps sizes st rules line class }
+    ensures { (sizes : SizeField) (st : State) (rules : List Rule) (line class : ℕ) (notes : List Noted) →
+        IsFront (front_edges st.points st.front) → IsRefusedBy sizes st rules line class notes →
+        HasNone sizes st rules line class }
 {}
 
 /// With more notes a reason stays a reason.
 pub fn law_more()
-    ensures { (maps : Maps) (st : State) (notes more : List Noted) (t : Attempt) →
-        IsExcused maps st notes t → IsExcused maps st (notes ++ more) t }
+    ensures { (st : State) (notes more : List Noted) (t : Attempt) →
+        IsExcused st notes t → IsExcused st (notes ++ more) t }
 {}
 
 /// A reason of one attempt is kept over an application that takes no witness and joins no line whose
@@ -54,4 +57,13 @@ pub fn law_order()
         in_order places (in_order plan a) ≡ a }
     ensures so_far { (ties : List Tie) (b rest : List ℕ) →
         fits_so_far ties (b ++ rest) ≡ true → fits_so_far ties b ≡ true }
+{}
+
+/// A candidate's points are met by the search: where the near points and lines are those of the front,
+/// near points stand for its points and meet each test that looks at the points alone. With no point
+/// mapped yet no test can fail.
+pub fn law_tried()
+    ensures starts { (s : Setting) → fits_so_far (ties s) [] ≡ true }
+    ensures met { (st : State) (t : Attempt) (near : List NearOne) (lines : List (ℕ × ℕ)) →
+        IsAround st t.frame near lines → IsCandidate st t → IsTried (setting_of t near lines) t.points }
 {}

@@ -9,6 +9,9 @@
 //! 4. A find that doesn't come before the best so far is never judged.
 //! 5. Where nothing is found, each assignment that was judged has a front line noted that keeps it from
 //!    being a candidate, with a point that it maps.
+//!
+//! Not here yet: what decides of whole assignments (`Judge`: new points, zone, gluing) over a front, how
+//! near points are gathered from a front, and the search over all rules of a file.
 
 mod application;
 mod assignment;
@@ -18,6 +21,7 @@ mod fresh;
 pub mod laws;
 mod near;
 mod progress;
+mod rule_trial;
 mod squares;
 mod tolerance;
 mod trying;
@@ -30,6 +34,7 @@ pub use found::Found;
 pub use fresh::search_fresh;
 pub use near::NearPoint;
 pub use progress::{Note, Progress};
+pub use rule_trial::{Judge, RuleTrial};
 pub use squares::element_badness;
 pub use std::alloc::AllocError as OutOfMemory;
 pub use trying::Trying;

@@ -146,7 +146,13 @@ impl<'a> Trying<'a> {
     ) -> Trying<'a>
         requires { All (λ point. IsOnGrid point.at) near.now }
         ensures { result ≡ record {
-            class = class; from = from; to = to; near = near.now; lines = lines.now; rule = rule.now } }
+          class = class;
+          from = from;
+          to = to;
+          near = near.now;
+          lines = lines.now;
+          rule = rule.now;
+        } }
     {
         Trying {
             class,
@@ -193,7 +199,10 @@ impl<'a> Trying<'a> {
         ensures { result ≡ line_test self.now line.now a.now b.now }
     {
         let points = self.rule.points.as_slice();
-        let wanted = way(&place_in_rule(points, line.i), &place_in_rule(points, line.j));
+        let wanted = way(
+            &place_in_rule(points, line.i),
+            &place_in_rule(points, line.j),
+        );
         let deviation = way(&wanted, &way(&local_of(a), &local_of(b)));
         is_front_line(self.lines, a.number, b.number)
             && is_tolerated(self.class, &line.tol, &deviation)
@@ -203,7 +212,10 @@ impl<'a> Trying<'a> {
     fn line_holds(&self, line: &MapLine, chosen: &[usize], p: usize) -> bool
         ensures { result ≡ is_met (chosen.now ++ p ∷ []) (line_tie self.now line.now) }
     {
-        match (number_at(chosen, p, position(line.i)), number_at(chosen, p, position(line.j))) {
+        match (
+            number_at(chosen, p, position(line.i)),
+            number_at(chosen, p, position(line.j)),
+        ) {
             (Some(a), Some(b)) => {
                 self.line_joins(line, &point_near(self.near, a), &point_near(self.near, b))
             }
@@ -335,7 +347,7 @@ impl<'a> Trying<'a> {
         ensures counted { IfOk result (λ v. length v.items ≡ length self.now.rule.points) }
         ensures covers { IfOk result
             (λ v. (b : List ℕ) → length b ≡ length self.now.rule.points →
-                fits_so_far (ties self.now) b ≡ true → AreOf v.items b) }
+            fits_so_far (ties self.now) b ≡ true → AreOf v.items b) }
     {
         let mut regions = Vec::new(alloc);
         for position in 0..self.count() {

@@ -23,7 +23,7 @@ use Rattle.rule_reader.specs.Words.{NumberTok}
 use Rattle.rule_reader.specs.Numbers.{digit_count, rounded, with_sign, places_of, number_of}
 use Rattle.rule_reader.specs.Normal.{minus, decimals, number_text}
 use Rattle.rule_reader.specs.Normal as normal
-use Rattle.rule_reader.proofs.NumberLemmas.{size_of_signed}
+use Rattle.word_scan.proofs.DecimalLaws.{size_of_signed}
 use Rattle.rule_reader.proofs.Lexing.{lex, Begins, lex_number}
 
 -- ---- whole numbers

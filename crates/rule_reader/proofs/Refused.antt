@@ -27,7 +27,7 @@ use Rattle.rule_reader.proofs.Starts.{starts_counted, starts_there}
 use Rattle.rule_reader.proofs.LineEnds.{rule_lines, some_points}
 use Rattle.rule_reader.proofs.Within.{body_in, rules_in, form_in, file_in}
 use Rattle.rule_reader.proofs.Told.{form, Like, Past, past_like, raised, Stopping, Says, Completes, Kind, Fronts, GoesOn, IsFault, blind_same, bind_err, fault_first, like_behind, stopping_like, judged_err}
-use Rattle.rule_reader.proofs.ToldEntries.{blind_name}
+use Rattle.rule_reader.proofs.ToldEntries.{blind_name, if_is}
 use Rattle.rule_reader.proofs.ToldMany.{not_both, head_next, many_grow, told_body}
 use Rattle.rule_reader.proofs.RulesPassed.{no_text, rule_fault, Unread, Next, NoRule, Full, Faulty, Passed, rules_passed, told_tolfak}
 
@@ -370,10 +370,6 @@ rules_past : (limits : Limits) (k room : ℕ) (s : State) → room ≡ zero → 
 unfolding rules_in
 rules_past limits k zero s none t = (TooMany (k + 1) 1, rw t refl)
 rules_past limits k (suc room) s none t = absurd (omega arith)
-
-if_is : (b : Bool) → is_fit (fit_if b) ≡ true → b ≡ true
-if_is true e = refl
-if_is false e = absurd cc
 
 name_next : (n : List ℕ) (left : List Tok) → is_fit (name_fit n (head left)) ≡ true → (more : List Tok) × (left ≡ NameTok n ∷ more)
 name_next n [] e = absurd cc

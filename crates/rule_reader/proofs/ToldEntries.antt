@@ -302,7 +302,7 @@ pub says_variable : variable (naming (NameTok (88 ∷ 49 ∷ [])) Mapped 1 ∷ [
 unfolding either
 says_variable = inl says_joined
 
-if_is : (b : Bool) → is_fit (fit_if b) ≡ true → b ≡ true
+pub if_is : (b : Bool) → is_fit (fit_if b) ≡ true → b ≡ true
 if_is true e = refl
 if_is false e = absurd cc
 

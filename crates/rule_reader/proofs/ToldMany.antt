@@ -1,4 +1,15 @@
 -- Where the readers of many entries, of sections and of rules fail.
+--
+-- A section is a series: entries one after another, up to a limit. Its reader fails at an entry, which is told already, or
+-- past the last entry that may be: there a limit is passed, and with that limit left aside one entry more is read. All of
+-- this is said of a series once, by the room that is left (told_series); what differs is how a reader fails past its last
+-- entry: at an opening bracket (told_entries), or at the coefficient behind a comma (told_rest). The readers of rows,
+-- sections, names and rules are put together from these, one after another.
+--
+-- Series       entries one after another, and their limit
+-- ToldSeries   what must be known of a series
+-- told_series  a series is told
+-- told_body    a rule, whatever its indices, is told
 use Rattle.std.proofs.Common.{pos, ◌≡◌, ℕ, zero, suc, ◌+◌, ◌<◌, ◌≤◌, Bool, true, false, cond, eqb, ltb, List, [], ◌∷◌, ◌++◌, length, Option, Some, None, Ok, Err, refl, sym, ap, subst, ◌∙◌, inl, inr, ◌⊎◌, arith}
 use Rattle.std.proofs.lemmas.List.{append-nil}
 use Rattle.std.proofs.lemmas.Bool.{eqb-true}
@@ -26,7 +37,7 @@ use Rattle.rule_reader.proofs.GoodFile.{short_name, named_takes}
 use Rattle.rule_reader.proofs.Within.{inner_terms_in, row_in, any_row_in, rows_in, place_in, content_in, section_word_at, section_in, sections_in, name_in, body_in}
 use Rattle.rule_reader.proofs.Told.{Blind, Like, past_like, past_same, Larger, extra, raised, Gone, Broken, Told, ToldIn, Follows, Says, Completes, IsFault, is_unfit, blind_same, bind_err, fault_first, fault_same, fault_not, gone_in, broken_in, gone_then, broken_first, broken_second, then, by_next, told_same, word_broken, complete_said, gone_good, grow_then}
 use Rattle.rule_reader.proofs.Told.{ends as ended}
-use Rattle.rule_reader.proofs.ToldEntries.{blind_mark, blind_name, wants_none, told_mark, told_name, told_quality, told_coordinates, told_map_point, told_map_line, told_pair, told_element, told_turn, told_term, nought, says_number, small_bound, says_variable}
+use Rattle.rule_reader.proofs.ToldEntries.{if_is, blind_mark, blind_name, wants_none, told_mark, told_name, told_quality, told_coordinates, told_map_point, told_map_line, told_pair, told_element, told_turn, told_term, nought, says_number, small_bound, says_variable}
 
 -- ---- a series: entries one after another, up to a limit
 
@@ -171,10 +182,6 @@ unfolding at_most
 told_series A most s m = told_run A most s m (most s.what) (λ limits. limits s.what) 0 (λ limits same. same)
 
 -- ---- entries in round brackets
-
-if_is : (b : Bool) → is_fit (fit_if b) ≡ true → b ≡ true
-if_is true e = refl
-if_is false e = absurd cc
 
 mark_next : (mark : ℕ) (left : List Tok) → is_fit (mark_fit mark (head left)) ≡ true → (more : List Tok) × (left ≡ MarkTok mark ∷ more)
 mark_next mark [] e = absurd cc

@@ -12,6 +12,7 @@ use crate::rule::{MapLine, MapPoint, Place, Rule, Term, Triple};
 use grid_geom::Element;
 use std::alloc::{AllocError, Global};
 
+/// Writes a whole number.
 fn put_whole(alloc: Global, out: &mut Vec<u8>, number: u64) -> Result<(), AllocError>
     ensures { OnOk result (out.new.items ≡ out.old.items ++ decimal number) }
 {
@@ -113,6 +114,7 @@ trait Printed {
     /// The line of an entry.
     ghost text: { Self → List ℕ };
 
+    /// Writes this line.
     fn put(&self, alloc: Global, out: &mut Vec<u8>) -> Result<(), AllocError>
         ensures { OnOk result (out.new.items ≡ out.old.items ++ text self.now) };
 }
@@ -170,6 +172,7 @@ fn put_letter(out: &mut Vec<u8>, of_y: bool) -> Result<(), AllocError>
     Ok(())
 }
 
+/// Writes a multiple of a variable.
 fn put_term(alloc: Global, out: &mut Vec<u8>, term: &Term) -> Result<(), AllocError>
     ensures { OnOk result (out.new.items ≡ out.old.items ++ term_text term.now) }
 {
@@ -317,7 +320,8 @@ fn put_section<E: Printed>(
     word: &[u8],
     entries: &[E],
 ) -> Result<(), AllocError>
-    ensures { OnOk result (out.new.items ≡ out.old.items ++ section_text word.now E.text entries.now) }
+    ensures { OnOk result (out.new.items ≡ out.old.items ++ section_text word.now E.text
+        entries.now) }
 {
     match entries {
         [] => Ok(()),
@@ -356,6 +360,7 @@ fn put_head(alloc: Global, out: &mut Vec<u8>, rule: &Rule) -> Result<(), AllocEr
     Ok(())
 }
 
+/// Writes a rule, from its name to `endrule`.
 fn put_rule(alloc: Global, out: &mut Vec<u8>, rule: &Rule) -> Result<(), AllocError>
     ensures { OnOk result (out.new.items ≡ out.old.items ++ rule_text rule.now) }
 {
@@ -365,6 +370,7 @@ fn put_rule(alloc: Global, out: &mut Vec<u8>, rule: &Rule) -> Result<(), AllocEr
     Ok(())
 }
 
+/// The lines of rules, one rule after another.
 fn text_of(alloc: Global, rules: &[Rule]) -> Result<Vec<u8>, AllocError>
     ensures { IfOk result (λ text. text.items ≡ normal_text rules.now) }
 {

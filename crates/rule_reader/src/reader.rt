@@ -59,6 +59,7 @@ impl<'a> Model for Reader<'a> {
     ghost view = { λ r. record { left = map seen r.tokens.now; uses = r.uses.items; rule = r.rule } };
 }
 
+/// Whether a token is this mark.
 fn mark_fit(token: Option<Token<'_>>, mark: u8) -> Fit<()>
     ensures { result ≡ mark_fit mark (option_map seen token.entry) }
 {
@@ -68,6 +69,7 @@ fn mark_fit(token: Option<Token<'_>>, mark: u8) -> Fit<()>
     }
 }
 
+/// Whether a token is this name.
 fn name_fit(token: Option<Token<'_>>, name: &[u8]) -> Fit<()>
     ensures { result ≡ name_fit name.now (option_map seen token.entry) }
 {
@@ -77,6 +79,7 @@ fn name_fit(token: Option<Token<'_>>, name: &[u8]) -> Fit<()>
     }
 }
 
+/// The number of a token, in units of 1/10,000, whose size is at most the greatest.
 fn number_fit(token: Option<Token<'_>>, greatest: u64) -> Fit<i32>
     requires { greatest ≤ 10000000 }
     ensures { result ≡ number_fit greatest (option_map seen token.entry) }
@@ -90,6 +93,7 @@ fn number_fit(token: Option<Token<'_>>, greatest: u64) -> Fit<i32>
     }
 }
 
+/// The whole number of a token, at most the greatest.
 fn whole_fit(token: Option<Token<'_>>, greatest: u64) -> Fit<u32>
     requires { greatest ≤ 9999 }
     ensures { result ≡ whole_fit greatest (option_map seen token.entry) }
@@ -118,6 +122,7 @@ fn variable_of(name: &[u8]) -> Fit<(bool, Option<u32>)>
     }
 }
 
+/// Whether a variable is of y, and its index where its name has one.
 fn variable_fit(token: Option<Token<'_>>) -> Fit<(bool, Option<u32>)>
     ensures { result ≡ variable_fit (option_map seen token.entry) }
 {
@@ -178,6 +183,7 @@ impl<'a> Reader<'a> {
         }
     }
 
+    /// Passes the token that comes next.
     fn advance(&mut self)
         ensures { self.new ≡ behind self.old }
     {

@@ -15,6 +15,29 @@ use crate::verdict::check;
 use std::alloc::Global;
 use word_scan::Name;
 
+/// How many entries a section has at most, and the number of this limit in a refusal.
+#[derive(Clone, Copy)]
+struct Limit {
+    most: usize,
+    what: u64,
+}
+
+const MAPPOINTS: Limit = Limit { most: 16, what: 2 };
+
+const MAPLINES: Limit = Limit { most: 16, what: 3 };
+
+const NEWPOINTS: Limit = Limit { most: 8, what: 4 };
+
+const NEWLINES: Limit = Limit { most: 24, what: 5 };
+
+const FREEAREA: Limit = Limit { most: 24, what: 6 };
+
+const FREEAREA2: Limit = Limit { most: 24, what: 7 };
+
+const ELEMENTS: Limit = Limit { most: 8, what: 8 };
+
+const ORIENTATIONS: Limit = Limit { most: 16, what: 9 };
+
 /// How many sections a rule has at most: one of each kind.
 const SECTIONS: usize = 9;
 /// How many bytes a rule's name has at most.
@@ -49,6 +72,7 @@ pub struct Parts {
 }
 
 impl Parts {
+    /// No section was read yet.
     fn new() -> Self
         ensures { result ≡ empty_parts }
     {
@@ -163,56 +187,56 @@ fn section(alloc: Global, reader: &mut Reader<'_>, parts: Parts) -> Result<Parts
             })
         }
         SectionKind::MapPoints => {
-            let points = entries(alloc, reader, 16, 2)?;
+            let points = entries(alloc, reader, MAPPOINTS.most, MAPPOINTS.what)?;
             Ok(Parts {
                 points: Some(MapPoints::from_vec(points)),
                 ..parts
             })
         }
         SectionKind::MapLines => {
-            let lines = entries(alloc, reader, 16, 3)?;
+            let lines = entries(alloc, reader, MAPLINES.most, MAPLINES.what)?;
             Ok(Parts {
                 lines: Some(MapLines::from_vec(lines)),
                 ..parts
             })
         }
         SectionKind::NewPoints => {
-            let places = entries(alloc, reader, 8, 4)?;
+            let places = entries(alloc, reader, NEWPOINTS.most, NEWPOINTS.what)?;
             Ok(Parts {
                 new_points: Some(Places::from_vec(places)),
                 ..parts
             })
         }
         SectionKind::NewLines => {
-            let pairs = entries(alloc, reader, 24, 5)?;
+            let pairs = entries(alloc, reader, NEWLINES.most, NEWLINES.what)?;
             Ok(Parts {
                 new_lines: Some(Pairs::from_vec(pairs)),
                 ..parts
             })
         }
         SectionKind::FreeArea => {
-            let places = entries(alloc, reader, 24, 6)?;
+            let places = entries(alloc, reader, FREEAREA.most, FREEAREA.what)?;
             Ok(Parts {
                 area: Some(Places::from_vec(places)),
                 ..parts
             })
         }
         SectionKind::FreeArea2 => {
-            let places = entries(alloc, reader, 24, 7)?;
+            let places = entries(alloc, reader, FREEAREA2.most, FREEAREA2.what)?;
             Ok(Parts {
                 limit: Some(Places::from_vec(places)),
                 ..parts
             })
         }
         SectionKind::Elements => {
-            let elements = entries(alloc, reader, 8, 8)?;
+            let elements = entries(alloc, reader, ELEMENTS.most, ELEMENTS.what)?;
             Ok(Parts {
                 elements: Some(Elements::from_vec(elements)),
                 ..parts
             })
         }
         SectionKind::Orientations => {
-            let turns = entries(alloc, reader, 16, 9)?;
+            let turns = entries(alloc, reader, ORIENTATIONS.most, ORIENTATIONS.what)?;
             Ok(Parts {
                 turns: Some(Turns::from_vec(turns)),
                 ..parts

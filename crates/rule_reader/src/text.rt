@@ -108,6 +108,7 @@ fn read(alloc: Global, tokens: &[Token<'_>]) -> Result<Rules, RuleRefusal>
     }
 }
 
+/// The rules of a text.
 fn text(alloc: Global, bytes: &[u8]) -> Result<Rules, RuleRefusal>
     ensures { IsReading result (words_of bytes.now) }
 {
@@ -130,7 +131,8 @@ pub fn read_rules(alloc: Global, bytes: &[u8]) -> Result<Rules, RuleRefusal>
     // wrong, and is of its kind.
     ensures refused { IfErr result (Refuses (words_of bytes.now)) }
     // Each text that is refused so is refused, unless memory runs out, and has no other refusal.
-    ensures refused_only { (f : RuleRefusal) → f ≢ RuleRefusal.Memory → Refuses (words_of bytes.now) f
+    ensures refused_only { (f : RuleRefusal) → f ≢ RuleRefusal.Memory
+        → Refuses (words_of bytes.now) f
         → MatchResult result (λ rules. ⊥) (λ e. (e ≡ f) ⊎ (e ≡ RuleRefusal.Memory)) }
     // What is read can be printed.
     ensures printable { IfOk result CanPrint }

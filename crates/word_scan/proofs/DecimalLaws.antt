@@ -1,5 +1,5 @@
 -- The decimal that is read is the one that the word's parts write.
-use Rattle.std.proofs.Common.{◌≡◌, ℕ, ◌+◌, ◌<◌, ◌≤◌, ◌⊎◌, inl, inr, Bool, true, false, cond, ◌&&◌, ◌||◌, eqb, ltb, leb, List, [], ◌∷◌, ◌++◌, length, Option, Some, None, ℤ, pos, ◌-ℤ◌, unsigned_abs, refl, sym, ap, subst, ◌∙◌, arith}
+use Rattle.std.proofs.Common.{◌≡◌, ℕ, zero, suc, ◌+◌, ◌^◌, ◌<◌, ◌≤◌, ◌⊎◌, inl, inr, Bool, true, false, cond, ◌&&◌, ◌||◌, eqb, ltb, leb, List, [], ◌∷◌, ◌++◌, length, Option, Some, None, ℤ, pos, ◌-ℤ◌, unsigned_abs, refl, sym, ap, subst, ◌∙◌, arith, length-append}
 use Rattle.std.specs.Prelude.{IfSome}
 use Rattle.std.specs.List.{prefix_len}
 use Rattle.std.specs.Char.{is_ascii_digit}
@@ -7,7 +7,8 @@ use Rattle.std.specs.Str.{all_ascii_digits}
 use Rattle.std.proofs.lemmas.Bool.{eqb-true, ne_eqb, ltb-true, leb-true, lt-ltb, le-leb, cond-true, or_cases, and_parts}
 use Rattle.std.proofs.lemmas.Option.{cond_some}
 use Rattle.std.proofs.lemmas.List.{append-nil, take_at, drop_at, take-append-drop}
-use Rattle.std.proofs.lemmas.Str.Parse.{tells_all_ascii_digits}
+use Rattle.std.specs.Str.Parse.{digits_value}
+use Rattle.std.proofs.lemmas.Str.Parse.{tells_all_ascii_digits, numerals_by_value, digits_value_short}
 use Rattle.word_scan.specs.declared.decimals.Dec.{Dec}
 use Rattle.word_scan.specs.Numerals.{value_of}
 use Rattle.word_scan.specs.Decimals.{Sign, NoSign, Plus, Minus, Power, DecimalParts, sign_text, fraction_text, power_text, spelling, fraction_digits, is_minus, signed, power_value, value, IsPowerIfAny, IsDecimal, sign_at, digits_at, fraction_at, power_at, exponent_at, made_of, after_sign, after_front, after_fraction, decimal_of}
@@ -218,3 +219,24 @@ decimal_found word dec e =
 pub is_found : (word : List ℕ) (o : Option Dec) → o ≡ decimal_of word → IfSome o (λ dec. (parts : DecimalParts) × IsDecimal parts × (word ≡ spelling parts) × (dec ≡ value parts))
 is_found word None e = tt
 is_found word (Some dec) e = decimal_found word dec (sym e)
+
+-- ---- how large a decimal is
+
+pub size_of_signed : (minus : Bool) (n : ℕ) → unsigned_abs (signed minus n) ≡ n
+size_of_signed true zero = refl
+size_of_signed true (suc n) = refl
+size_of_signed false n = refl
+
+pub all_digits_both : (a b : List ℕ) → all_ascii_digits a ≡ true → all_ascii_digits b ≡ true → all_ascii_digits (a ++ b) ≡ true
+all_digits_both [] b p q = q
+all_digits_both (x ∷ a) b p q =
+    let parts = tells_all_ascii_digits.parts x a p in
+    tells_all_ascii_digits.more x (a ++ b) parts.0 (all_digits_both a b parts.1 q)
+
+-- it has at most thirty digits
+pub decimal_is_small : (parts : DecimalParts) → IsDecimal parts → unsigned_abs (value parts).digits < 10 ^ 30
+decimal_is_small parts is =
+    let ds = parts.front ++ fraction_digits parts.fraction in
+    let few : length ds ≤ 30 = omega (arith, length-append parts.front (fraction_digits parts.fraction), is.few) in
+    let small : digits_value 10 ds < 10 ^ 30 = digits_value_short (numerals_by_value (λ (cs : List ℕ). all_ascii_digits cs ≡ true) tells_all_ascii_digits) ds 30 (all_digits_both parts.front (fraction_digits parts.fraction) is.front is.behind) few in
+    rw size_of_signed small

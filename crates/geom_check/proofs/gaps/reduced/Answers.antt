@@ -4,11 +4,12 @@ use Rattle.std.proofs.lemmas.Int.{ints, to_z-of_z}
 use Rattle.std.proofs.Math.Nat.{div-le_self}
 use Rattle.geom_check.proofs.Divisors.{least_at}
 use Rattle.geom_check.proofs.gaps.reduced.Goals as goal
+use Rattle.geom_check.specs.declared.limits.TheConstants.{MOST_COMMON}
 
 back : (z : ℤ) → SFits w128 z → to_z w128 (of_z w128 z) ≡ z
 back z f = to_z-of_z w128 z f
 
-small : (n : ℕ) → n ≤ 35184372088832 → to_z w128 n ≡ pos n
+small : (n : ℕ) → n ≤ MOST_COMMON → to_z w128 n ≡ pos n
 small n h = omega (arith, ints)
 
 pub returns : goal.returns

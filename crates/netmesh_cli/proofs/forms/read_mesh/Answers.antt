@@ -1,6 +1,6 @@
 use Rattle.std.proofs.Common.{rules, ◌≡◌, ◌≢◌, map, string_bytes}
 use Rattle.std.proofs.lemmas.Result.{err_from_is_err_and}
-use Rattle.netmesh_cli.specs.Reading.{given_of}
+use Rattle.netmesh_cli.specs.WordsRead.{given_of}
 use Rattle.netmesh_cli.proofs.Calling.{refused_mesh, mesh_calls, mesh_value, one_name}
 use Rattle.netmesh_cli.proofs.forms.read_mesh.Goals as goal
 

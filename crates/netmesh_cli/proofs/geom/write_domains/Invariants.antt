@@ -1,7 +1,7 @@
 use Rattle.std.proofs.Common.{◌≡◌, ◌++◌, take}
 use Rattle.std.specs.Prelude.{string_bytes}
 use Rattle.std.specs.List.{flat_map}
-use Rattle.netmesh_cli.specs.Drawn.{domain_line}
+use Rattle.netmesh_cli.specs.Shown.{domain_line}
 use Rattle.netmesh_cli.proofs.geom.write_domains.Given as goal
 
 abbrev pub invariant-loop-domain : goal.invariant-loop-domain

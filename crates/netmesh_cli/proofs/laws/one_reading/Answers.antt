@@ -1,4 +1,4 @@
-use Rattle.netmesh_cli.proofs.Readings.{one_reading}
+use Rattle.netmesh_cli.proofs.WordsRead.{one_reading}
 use Rattle.netmesh_cli.proofs.laws.one_reading.Goals as goal
 
 pub returns : goal.returns

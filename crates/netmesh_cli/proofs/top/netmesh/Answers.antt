@@ -1,44 +1,42 @@
-use Rattle.netmesh_cli.specs.Words.{names_of, mesh_task}
-use Rattle.netmesh_cli.specs.Commands.{GeomOf}
+use Rattle.std.proofs.Common.{arith}
+use Rattle.netmesh_cli.specs.Jobs.{job_of, task_of_job}
 use Rattle.netmesh_cli.proofs.Exclusion.{never_both}
-use Rattle.netmesh_cli.proofs.Askings.{asked_is, mesh_refused, mesh_refused_exactly, geom_refused, geom_refused_exactly, answer_at_fault, answer_not_built, mesh_is_built, not_unbuilt, mesh_answers, mesh_exactlies, geom_answers, geom_exactlies}
+use Rattle.netmesh_cli.proofs.Askings.{answer_at_fault, answer_not_built, job_apart, job_is_built, not_unbuilt, no_words_cause, other_answers, other_exactly, other_mesh, refused_answers, refused_words_exactly, unwritten_words}
+use Rattle.netmesh_cli.proofs.Tops.{line_after}
 use Rattle.netmesh_cli.proofs.top.netmesh.Goals as goal
 
-pub returns-in-Ok-Mesh-clause-words_at_fault : goal.returns-in-Ok-Mesh-clause-words_at_fault
-returns-in-Ok-Mesh-clause-words_at_fault g c = λ fault is. absurd (never_both _ (mesh_task (names_of c.in-Ok-Mesh.files)) fault (asked_is _ _ _ c.in-Ok-Mesh.field-0-is c.in-Ok-Mesh.ensures.asked) is)
+pub answered-requires-clause-apart : goal.answered-requires-clause-apart
+answered-requires-clause-apart g c = job_apart _ (job_of c.in-Ok.asked) c.in-Ok.ensures.asked
 
-pub returns-in-Ok-Mesh-clause-words_not_built : goal.returns-in-Ok-Mesh-clause-words_not_built
-returns-in-Ok-Mesh-clause-words_not_built g c = λ ask. absurd (not_unbuilt _ (mesh_task (names_of c.in-Ok-Mesh.files)) (mesh_is_built (names_of c.in-Ok-Mesh.files)) (asked_is _ _ _ c.in-Ok-Mesh.field-0-is c.in-Ok-Mesh.ensures.asked) ask)
+pub returns-in-Ok-clause-words_at_fault : goal.returns-in-Ok-clause-words_at_fault
+returns-in-Ok-clause-words_at_fault g c = λ fault is. absurd (never_both _ (task_of_job (job_of c.in-Ok.asked)) fault c.in-Ok.ensures.asked is)
 
-pub returns-in-Ok-Mesh-clause-mesh : goal.returns-in-Ok-Mesh-clause-mesh
-returns-in-Ok-Mesh-clause-mesh g c = mesh_answers _ (names_of c.in-Ok-Mesh.files) (asked_is _ _ _ c.in-Ok-Mesh.field-0-is c.in-Ok-Mesh.ensures.asked) _ _ _ _ _ _ _ c.run_mesh.ensures.answer
+pub returns-in-Ok-clause-words_not_built : goal.returns-in-Ok-clause-words_not_built
+returns-in-Ok-clause-words_not_built g c = λ ask. absurd (not_unbuilt _ (task_of_job (job_of c.in-Ok.asked)) (job_is_built (job_of c.in-Ok.asked) c.in-Ok.ensures.built) c.in-Ok.ensures.asked ask)
 
-pub returns-in-Ok-Mesh-clause-mesh_exactly : goal.returns-in-Ok-Mesh-clause-mesh_exactly
-returns-in-Ok-Mesh-clause-mesh_exactly g c = mesh_exactlies _ (names_of c.in-Ok-Mesh.files) (asked_is _ _ _ c.in-Ok-Mesh.field-0-is c.in-Ok-Mesh.ensures.asked) _ _ _ _ c.run_mesh.ensures.exactly
+pub returns-in-Ok-clause-words_cause : goal.returns-in-Ok-clause-words_cause
+returns-in-Ok-clause-words_cause g c = no_words_cause _ (job_of c.in-Ok.asked) _ _ _ _ _ c.answered.ensures.answers
 
-pub returns-in-Ok-Geom-clause-words_at_fault : goal.returns-in-Ok-Geom-clause-words_at_fault
-returns-in-Ok-Geom-clause-words_at_fault g c = λ fault is. absurd (never_both _ (GeomOf c.in-Ok-Geom.name.now) fault (asked_is _ _ _ c.in-Ok-Geom.field-0-is c.in-Ok-Geom.ensures.asked) is)
+pub returns-in-Ok-clause-answers : goal.returns-in-Ok-clause-answers
+returns-in-Ok-clause-answers g c = other_answers _ (job_of c.in-Ok.asked) c.in-Ok.ensures.asked _ _ _ _ _ c.answered.ensures.answers
 
-pub returns-in-Ok-Geom-clause-geom : goal.returns-in-Ok-Geom-clause-geom
-returns-in-Ok-Geom-clause-geom g c = geom_answers _ c.in-Ok-Geom.name.now (asked_is _ _ _ c.in-Ok-Geom.field-0-is c.in-Ok-Geom.ensures.asked) _ _ _ _ _ _ _ c.run_geom.ensures.answer
+pub returns-in-Ok-clause-exactly : goal.returns-in-Ok-clause-exactly
+returns-in-Ok-clause-exactly g c = other_exactly _ (job_of c.in-Ok.asked) c.in-Ok.ensures.asked _ _ _ _ c.answered.ensures.exactly
 
-pub returns-in-Ok-Geom-clause-geom_exactly : goal.returns-in-Ok-Geom-clause-geom_exactly
-returns-in-Ok-Geom-clause-geom_exactly g c = geom_exactlies _ c.in-Ok-Geom.name.now (asked_is _ _ _ c.in-Ok-Geom.field-0-is c.in-Ok-Geom.ensures.asked) _ _ _ _ c.run_geom.ensures.exactly
+pub returns-in-Ok-clause-mesh : goal.returns-in-Ok-clause-mesh
+returns-in-Ok-clause-mesh g c = other_mesh _ (job_of c.in-Ok.asked) c.in-Ok.ensures.asked _ _ _ _ _ c.answered.ensures.answers
 
 pub returns-in-Err-clause-words_at_fault : goal.returns-in-Err-clause-words_at_fault
-returns-in-Err-clause-words_at_fault g c = answer_at_fault _ _ _ _ _ _ _ c.in-Err.ensures.refused c.tell.ensures.told
+returns-in-Err-clause-words_at_fault g c = answer_at_fault _ _ _ _ _ _ c.in-Err.ensures.refused c.tell.ensures.told
 
 pub returns-in-Err-clause-words_not_built : goal.returns-in-Err-clause-words_not_built
-returns-in-Err-clause-words_not_built g c = answer_not_built _ _ _ _ _ _ _ c.in-Err.ensures.refused c.tell.ensures.told
+returns-in-Err-clause-words_not_built g c = answer_not_built _ _ _ _ _ _ c.in-Err.ensures.refused c.tell.ensures.told
 
-pub returns-in-Err-clause-mesh : goal.returns-in-Err-clause-mesh
-returns-in-Err-clause-mesh g c = λ names asked. mesh_refused _ names asked _ _ _ c.in-Err.refusal _ _ _ _ c.in-Err.ensures.refused c.tell.ensures.told
+pub returns-in-Err-clause-answers : goal.returns-in-Err-clause-answers
+returns-in-Err-clause-answers g c = refused_answers _ _ _ _ _ _ c.in-Err.ensures.refused c.tell.ensures.told
 
-pub returns-in-Err-clause-mesh_exactly : goal.returns-in-Err-clause-mesh_exactly
-returns-in-Err-clause-mesh_exactly g c = λ names asked. mesh_refused_exactly _ names asked _ _ _ c.in-Err.refusal _ _ _ _ c.in-Err.ensures.refused c.tell.ensures.told
+pub returns-in-Err-clause-exactly : goal.returns-in-Err-clause-exactly
+returns-in-Err-clause-exactly g c = refused_words_exactly _ _ _ _ _ _ _ _ c.in-Err.ensures.refused c.tell.ensures.told
 
-pub returns-in-Err-clause-geom : goal.returns-in-Err-clause-geom
-returns-in-Err-clause-geom g c = λ name asked. geom_refused _ name asked _ _ _ c.in-Err.refusal _ _ _ _ c.in-Err.ensures.refused c.tell.ensures.told
-
-pub returns-in-Err-clause-geom_exactly : goal.returns-in-Err-clause-geom_exactly
-returns-in-Err-clause-geom_exactly g c = λ name asked. geom_refused_exactly _ name asked _ _ _ c.in-Err.refusal _ _ _ _ c.in-Err.ensures.refused c.tell.ensures.told
+pub returns-in-Err-clause-line : goal.returns-in-Err-clause-line
+returns-in-Err-clause-line g c = line_after (λ _. ⊥) _ _ _ _ _ (unwritten_words _ _ _ c.in-Err.ensures.refused) (omega arith) c.tell.ensures.told

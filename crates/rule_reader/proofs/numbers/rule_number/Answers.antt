@@ -1,6 +1,6 @@
 use Rattle.std.proofs.Common.{ℕ, ◌<◌, ◌^◌, unsigned_abs, subst, sym, ◌∙◌, ap}
 use Rattle.word_scan.specs.declared.decimals.Dec.{Dec}
-use Rattle.rule_reader.proofs.NumberLemmas.{decimal_is_small}
+use Rattle.word_scan.proofs.DecimalLaws.{decimal_is_small}
 use Rattle.rule_reader.proofs.numbers.rule_number.Goals as goal
 
 pub rounded-size-requires-clause-small : goal.rounded-size-requires-clause-small

@@ -1,6 +1,5 @@
-use Rattle.std.proofs.Common.{◌∙◌, sym, ap, subst, length}
+use Rattle.std.proofs.Common.{◌∙◌, sym, ap, length}
 use Rattle.std.proofs.lemmas.Map.Entries.{length-values_of}
-use Rattle.front_chain.specs.Front.{IsWalk}
 use Rattle.front_chain.proofs.Walks.{walk_is, walk_length}
 use Rattle.front_chain.proofs.chain.Chain.lines.Goals as goal
 

@@ -1,0 +1,149 @@
+-- What each verb takes, puts and makes: one case of each definition for a verb. All else that the program
+-- promises of a verb follows from these cases, in one way for all of them.
+--
+-- Job           what is asked for, of what is built
+-- takes_of      the files that it takes, in order
+-- puts_of       the names under which it puts files, in order
+-- EndsSo        the outcomes that it may have, where it isn't refused
+-- Made          what is made: the files to be put, the answer, and the outcome
+-- Makes         this is made of the files that are held
+use Rattle.std.specs.Prelude.{◌≡◌, ℕ, List, [], ◌∷◌, map}
+use Rattle.folder_io.specs.Names.{Files}
+use Rattle.in2d_reader.specs.declared.geometry.RawGeometry.{RawGeometry}
+use Rattle.rule_reader.specs.declared.rule.Rule.{Rule}
+use Rattle.geom_check.specs.Geometry.{PlanarMap}
+use Rattle.netmesh_cli.specs.declared.outcome.Outcome.{Outcome}
+use Rattle.netmesh_cli.specs.declared.outcome.Outcome.TheVariants.{Done, Stuck, Stopped, Shown}
+use Rattle.netmesh_cli.specs.declared.made.Put.{Put as PutValue}
+use Rattle.netmesh_cli.specs.declared.made.Made.{Made as MadeValue}
+use Rattle.netmesh_cli.specs.declared.command.MeshCall.{MeshCall}
+use Rattle.netmesh_cli.specs.declared.asked.Asked.{Asked}
+use Rattle.netmesh_cli.specs.declared.asked.Asked.TheVariants.{Mesh, Geom}
+use Rattle.netmesh_cli.specs.Commands.{Task, MeshTask, MeshOf, GeomOf}
+use Rattle.netmesh_cli.specs.Words.{no_options}
+use Rattle.netmesh_cli.specs.Accepted.{IsGeometryText, AreRules}
+use Rattle.netmesh_cli.specs.Causes.{HoldsWithin}
+use Rattle.netmesh_cli.specs.Taking.{Taken, geometry_at, ruleless_file_at}
+use Rattle.netmesh_cli.specs.Run.{MeshInput, run_of, log_of, mesh_of, line_of, outcome_of, IsCovered}
+use Rattle.netmesh_cli.specs.Shown.{shown_text}
+
+-- ---- what is asked for
+
+-- the verbs that are built: the files are given by their names
+pub data Job : Type 0 where
+  MeshJob : MeshTask → Job
+  GeomJob : List ℕ → Job
+
+-- as the words of a call ask for it
+abbrev pub task_of_job : Job → Task
+task_of_job (MeshJob task) = MeshOf task
+task_of_job (GeomJob geometry) = GeomOf geometry
+
+-- as the program reads it off the words
+abbrev pub task_of_mesh : MeshCall → MeshTask
+task_of_mesh call = record {
+  geometry = call.geometry.now;
+  rules = call.rules.now;
+  mesh = call.mesh.now;
+  log = call.log.now;
+  options = call.options;
+}
+
+abbrev pub job_of : Asked → Job
+job_of (Mesh call) = MeshJob (task_of_mesh call)
+job_of (Geom geometry) = GeomJob geometry.now
+
+-- no option of `mesh` is built so far
+abbrev pub IsBuilt : Job → Type 0
+IsBuilt (MeshJob task) = task.options ≡ no_options
+IsBuilt (GeomJob geometry) = Unit {0}
+
+-- ---- what is taken and put
+
+abbrev pub takes_of : Job → List Taken
+takes_of (MeshJob task) = geometry_at task.geometry ∷ ruleless_file_at task.rules ∷ []
+takes_of (GeomJob geometry) = geometry_at geometry ∷ []
+
+-- the log is put before the mesh
+abbrev pub puts_of : Job → List (List ℕ)
+puts_of (MeshJob task) = task.log ∷ task.mesh ∷ []
+puts_of (GeomJob geometry) = []
+
+abbrev pub IsRunOutcome : Outcome → Type 0
+IsRunOutcome Done = Unit {0}
+IsRunOutcome Stuck = Unit {0}
+IsRunOutcome Stopped = Unit {0}
+IsRunOutcome _ = ⊥
+
+abbrev pub IsShown : Outcome → Type 0
+IsShown Shown = Unit {0}
+IsShown _ = ⊥
+
+abbrev pub EndsSo : Job → Outcome → Type 0
+EndsSo (MeshJob task) = IsRunOutcome
+EndsSo (GeomJob geometry) = IsShown
+
+-- ---- what is made
+
+-- bytes that are put under a name
+pub record Put : Type 0 where
+  pub name : List ℕ
+  pub bytes : List ℕ
+
+-- what is put, in order, what is written in the end, and how the call then ended
+pub record Made : Type 0 where
+  pub puts : List Put
+  pub answer : List ℕ
+  pub outcome : Outcome
+
+-- as the program holds it
+abbrev pub put_of : PutValue → Put
+put_of put = record { name = put.name.now; bytes = put.bytes.items }
+
+abbrev pub made_of : MadeValue → Made
+made_of made = record { puts = map put_of made.puts.items; answer = made.answer.items; outcome = made.outcome }
+
+abbrev pub names_of_puts : List Put → List (List ℕ)
+names_of_puts puts = map (λ put. put.name) puts
+
+-- the text of an accepted geometry is held under the name
+pub record HoldsGeometry (files : Files) (name : List ℕ) (raw : RawGeometry) (g : PlanarMap) : Type 0 where
+  pub bytes : List ℕ
+  pub holds : HoldsWithin 1048576 files name bytes
+  pub written : IsGeometryText bytes raw g
+
+-- a rule file with these rules is held under the name
+pub record HoldsRules (files : Files) (name : List ℕ) (rules : List Rule) : Type 0 where
+  pub bytes : List ℕ
+  pub holds : HoldsWithin 1048576 files name bytes
+  pub are : AreRules bytes rules
+
+-- `mesh`: the geometry and the rules that are held are accepted; the log and then the mesh of their run are
+-- put, its summary line is written, and the outcome is that of its end
+pub record IsMeshed (task : MeshTask) (files : Files) (made : Made) : Type 0 where
+  pub input : MeshInput
+  pub raw : RawGeometry
+  pub geometry : HoldsGeometry files task.geometry raw input.geometry
+  pub rules : HoldsRules files task.rules input.rules
+  pub ruleless : input.rules ≡ []
+  pub options : input.options ≡ task.options
+  pub puts : made.puts
+      ≡ record { name = task.log; bytes = log_of input } ∷ record { name = task.mesh; bytes = mesh_of input } ∷ []
+  pub answer : made.answer ≡ line_of input
+  pub outcome : made.outcome ≡ outcome_of (run_of input).end
+  -- off the segments the fronts of the run wind as the boundaries do, each round a place once or not at all
+  pub covered : IsCovered input
+
+-- `geom`: the geometry that is held is accepted, and its text is written
+pub record IsDrawn (name : List ℕ) (files : Files) (made : Made) : Type 0 where
+  pub raw : RawGeometry
+  pub geometry : PlanarMap
+  pub held : HoldsGeometry files name raw geometry
+  pub puts : made.puts ≡ []
+  pub answer : made.answer ≡ shown_text raw geometry
+  pub outcome : made.outcome ≡ Shown
+
+-- what a verb makes of the files that are held
+abbrev pub Makes : Job → Files → Made → Type 0
+Makes (MeshJob task) files made = IsMeshed task files made
+Makes (GeomJob geometry) files made = IsDrawn geometry files made

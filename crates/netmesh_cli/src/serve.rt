@@ -1,0 +1,66 @@
+//! A call of any verb: what is made of the files that it takes is put, and its answer is written.
+
+ghost use Rattle.std.specs.Prelude.{◌≡◌, ◌≤◌, [], map, IfOk, IfErr};
+ghost use Rattle.folder_io.specs.Causes.{Told, ToldBoth};
+ghost use Rattle.netmesh_cli.specs.Jobs.{job_of, IsBuilt, EndsSo, Makes, made_of, put_of};
+ghost use Rattle.netmesh_cli.specs.Jobs.{names_of_puts, puts_of};
+ghost use Rattle.netmesh_cli.specs.Served.{IsServed, IsAnswer, MakeRefused, Course, WrittenBefore};
+
+use super::asked::Asked;
+use super::geom::make_geom;
+use super::made::Made;
+use super::mesh::make_mesh;
+use super::{Outcome, Refusal, files};
+use folder_io::{Folder, Sink};
+use std::alloc::Global;
+
+/// What the verb makes of the files that it takes.
+fn make<'a, F: Folder>(
+    alloc: Global,
+    asked: &Asked<'a>,
+    folder: &mut F,
+) -> Result<Made<'a>, Refusal>
+    requires { IsBuilt (job_of asked.now) }
+    ensures held { (F.state folder.new).held ≡ (F.state folder.old).held }
+    ensures made { IfOk result (λ made. Told (F.state folder.old).held
+        (λ files. Makes (job_of asked.now) files (made_of made))) }
+    ensures puts { IfOk result (λ made. names_of_puts (map put_of made.puts.items)
+        ≡ puts_of (job_of asked.now)) }
+    ensures ending { IfOk result (λ made. EndsSo (job_of asked.now) made.outcome) }
+    ensures refused { IfErr result (MakeRefused
+        (job_of asked.now) (F.state folder.old) (F.state folder.new)) }
+    ensures rises { (F.state folder.old).faults ≤ (F.state folder.new).faults }
+{
+    match asked {
+        Asked::Mesh(call) => make_mesh(alloc, call, folder),
+        Asked::Geom(name) => make_geom(alloc, name, folder),
+    }
+}
+
+/// Does the work of a verb, and says how it ended, or why it was refused.
+pub fn serve<F: Folder, O: Sink>(
+    alloc: Global,
+    asked: &Asked,
+    folder: &mut F,
+    out: &mut O,
+) -> Result<Outcome, Refusal>
+    requires { IsBuilt (job_of asked.now) }
+    ensures served { IfOk result (λ outcome. ToldBoth (F.state folder.old).held (F.state folder.new).held
+        (IsServed (job_of asked.now) outcome
+        (O.state out.old).written (O.state out.new).written)) }
+    ensures ending { IfOk result (EndsSo (job_of asked.now)) }
+    ensures course { IfErr result (Course (job_of asked.now)
+        (F.state folder.old) (F.state folder.new) (O.state out.old) (O.state out.new)) }
+    ensures written { IfErr result (WrittenBefore
+        (IsAnswer (job_of asked.now) (F.state folder.old).held)
+        (O.state out.old).written (O.state out.new).written) }
+    ensures puts_nothing { puts_of (job_of asked.now) ≡ []
+        → (F.state folder.new).held ≡ (F.state folder.old).held }
+    ensures rises { (F.state folder.old).faults ≤ (F.state folder.new).faults }
+    ensures rises_out { (O.state out.old).faults ≤ (O.state out.new).faults }
+{
+    let made = make(alloc, asked, folder)?;
+    files::put_all(alloc, folder, made.puts.as_slice())?;
+    files::answer(out, &made.answer)?;
+    Ok(made.outcome)
+}

@@ -1,0 +1,9 @@
+use Rattle.rule_match.specs.Trying.{starts}
+use Rattle.rule_match.proofs.Tried.{tried}
+use Rattle.rule_match.proofs.laws.law_tried.Goals as goal
+
+pub returns-clause-starts : goal.returns-clause-starts
+returns-clause-starts c = starts
+
+pub returns-clause-met : goal.returns-clause-met
+returns-clause-met c = tried
