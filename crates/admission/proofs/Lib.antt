@@ -18,3 +18,5 @@ pub mod Views
 -- Elements one after another.
 pub mod Order
 pub mod Turns
+-- For tests.
+pub mod Worked

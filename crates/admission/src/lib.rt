@@ -23,3 +23,6 @@ mod view;
 pub use admitting::admit;
 pub use refusal::{Admitted, GlueRefusal};
 pub use std::alloc::AllocError as OutOfMemory;
+
+#[cfg(test)]
+mod tests;
