@@ -18,5 +18,7 @@ pub mod Views
 -- Elements one after another.
 pub mod Order
 pub mod Turns
+-- What an answer says.
+pub mod Answered
 -- For tests.
 pub mod Worked

@@ -102,7 +102,7 @@ least_all R b points front (Some m) c h = record { holds = to_all R b points fro
 
 -- ---- what hinders is near
 -- R is a way to hinder: a line for which it holds is not clear of the element
-abbrev Hinders : (Line → ℕ → Type 0) → List Point → Type 0
+abbrev pub Hinders : (Line → ℕ → Type 0) → List Point → Type 0
 Hinders R cs = (line : Line) (n : ℕ) → R line n → ¬ (IsClearOf cs (edge line.a line.b))
 
 close_each : (R : Line → ℕ → Type 0) (b : Bounds) (p : Point) (points cs : List Point) (front : List Triple) → Hinders R cs → IsStrictlyConvex cs → AreInBox b.lo b.hi cs → IsInBounds b p → AllByRecursion IsEdge (front_edges points front) → AreClose R b points front
@@ -110,19 +110,19 @@ close_each R b p points cs [] w v h i e = tt
 close_each R b p points cs (line ∷ front) w v h i e =
     (λ n r. met_by b (pair_edge points (line.1, line.2)) p i (hinders_near b.lo b.hi cs (pair_edge points (line.1, line.2)) v h e.0 (w (drawn points line) n r)), close_each R b p points cs front w v h i e.1)
 
-met_hinders : (cs : List Point) → Hinders (IsLine (IsMet cs)) cs
+pub met_hinders : (cs : List Point) → Hinders (IsLine (IsMet cs)) cs
 met_hinders cs line n r = λ c. r.0 c.apart
 
-on_side_hinders : (cs : List Point) → Hinders (IsEnd (IsOnSide cs)) cs
+pub on_side_hinders : (cs : List Point) → Hinders (IsEnd (IsOnSide cs)) cs
 on_side_hinders cs line n r = λ c. elim r [
   | inl k ↦ some_not (λ s. IsOnOpen line.a s.a s.b) (λ s. ¬ (IsOnOpen line.a s.a s.b) × ¬ (IsOnOpen line.b s.a s.b)) (sides cs) (λ s o no. no.0 o) k.0 c.ends_off_sides
   | inr k ↦ some_not (λ s. IsOnOpen line.b s.a s.b) (λ s. ¬ (IsOnOpen line.a s.a s.b) × ¬ (IsOnOpen line.b s.a s.b)) (sides cs) (λ s o no. no.1 o) k.0 c.ends_off_sides
 ]
 
-corner_on_hinders : (cs : List Point) → Hinders (IsLine (IsCornerOn cs)) cs
+pub corner_on_hinders : (cs : List Point) → Hinders (IsLine (IsCornerOn cs)) cs
 corner_on_hinders cs line n r = λ c. some_not (λ p. IsOnOpen p line.a line.b) (λ p. ¬ (IsOnOpen p line.a line.b)) cs (λ p o no. no o) r.0 c.corners_off_line
 
-backwards_hinders : (cs : List Point) → Hinders (IsLine (IsBackwards cs)) cs
+pub backwards_hinders : (cs : List Point) → Hinders (IsLine (IsBackwards cs)) cs
 backwards_hinders cs line n r = λ c. some_not (λ s. edge line.a line.b ≡ back s) (λ s. ¬ (edge line.a line.b ≡ back s)) (sides cs) (λ s o no. no o) r.0 c.not_backwards
 
 -- the least numbers in the view are those of the state

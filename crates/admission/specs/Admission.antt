@@ -96,3 +96,9 @@ SaysWhy st cs k Memory = ⊥
 abbrev pub IsRefusal : State → List (List ℕ) → ℕ → GlueRefusal → Type 0
 IsRefusal st [] k r = ⊥
 IsRefusal st (ns ∷ elements) k r = SaysWhy st (corners_of st.points ns) k r ⊎ (MayJoin st ns × IsRefusal (glued st ns) elements (k + 1) r)
+
+-- the front g is f with the new points listed and these elements glued
+pub record HasGlued (f : FrontState) (made : List Point) (elements : List (List ℕ)) (g : FrontState) : Type 0 where
+  pub points : g.points ≡ f.points ++ made
+  pub lines : g.lines ≡ (glued_on (entered f made) elements).front
+  pub next : g.next ≡ (glued_on (entered f made) elements).next

@@ -79,12 +79,15 @@ fn copied(alloc: Global, made: &[Point], elements: &[Element]) -> Result<Admitte
     })
 }
 
-/// The new points and the elements, where the elements may be glued to the front one after another; else why not. Numbers after the front's
-/// points name the new points in their order. Lines that elements of the call join count for those after them.
+/// The new points and the elements, where the elements may be glued to the front one after another;
+/// else why not. Numbers after the front's points name the new points in their order. Lines that
+/// elements of the call join count for those after them.
 ///
-/// The new points are grid points at different places, none of them that of a point of the front. Each element has three corners.
+/// The new points are grid points at different places, none of them that of a point of the front.
+/// Each element has three corners.
 ///
-/// Errors: the first element that may not be glued after those before it, and why; or want of memory.
+/// Errors: the first element that may not be glued after those before it, and why; or want of
+/// memory.
 pub fn admit(
     alloc: Global,
     front: &Front,
@@ -98,7 +101,8 @@ pub fn admit(
     ensures made { IfOk result (λ a. a.made ≡ made.now) }
     ensures elements { IfOk result (λ a. a.elements ≡ elements.now) }
     ensures may { OnOk result (MayFollow (entered front.now made.now) elements.now) }
-    ensures refused { IfErr result (λ r. (r ≡ NoMemory) ⊎ IsRefusal (entered front.now made.now) elements.now 1 r) }
+    ensures refused { IfErr result (λ r. (r ≡ NoMemory) ⊎
+        IsRefusal (entered front.now made.now) elements.now 1 r) }
 {
     match first_refusal(alloc, front, made, elements) {
         Err(_) => Err(GlueRefusal::Memory),

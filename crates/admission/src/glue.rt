@@ -16,8 +16,8 @@ fn place_of(lines: &[Line], side: &Line) -> Option<usize>
         .position(|line| line.from == side.from && line.to == side.to)
 }
 
-/// Glues a side: the line that goes its way leaves, or else a line joins from its end to its start, with the next number. The next number
-/// after that is answered.
+/// Glues a side: the line that goes its way leaves, or else a line joins from its end to its start,
+/// with the next number. The next number after that is answered.
 fn glue_side(lines: &mut Vec<Line>, next: u64, side: &Line) -> Result<u64, OutOfMemory>
     requires { next + 1 < 2 ^ 64 }
     ensures lines { OnOk result (lines.new.items ≡ glue_drawn lines.old.items next side.now) }

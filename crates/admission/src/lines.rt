@@ -37,7 +37,8 @@ fn lesser(x: Option<u64>, y: Option<u64>) -> Option<u64>
 fn if_on_side(place: Point, number: u64, t: &Triangle) -> Option<u64>
     requires corners_on { IsTriangleOnGrid t.now }
     requires place_on { IsOnGrid place }
-    ensures { IsLeastOrNone (λ n. IsOnSide (corners_of_triangle t.now) place × (number ≡ n)) result }
+    ensures { IsLeastOrNone (λ n. IsOnSide (corners_of_triangle t.now) place × (number ≡ n))
+        result }
 {
     if t.on_side(place) {
         return Some(number);

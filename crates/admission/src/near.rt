@@ -14,7 +14,8 @@ use grid_geom::{Bounds, Edge, Point, RatPoint};
 use std::alloc::{AllocError as OutOfMemory, Global};
 use wind_law::crossing;
 
-/// Whether the box of a line from `a` to `b` meets the box `near`. Each test is made, so that nothing branches.
+/// Whether the box of a line from `a` to `b` meets the box `near`. Each test is made, so that
+/// nothing branches.
 fn meets(near: Bounds, a: Point, b: Point) -> bool
     ensures { result ≡ does_meet near (edge a b) }
 {
@@ -45,7 +46,8 @@ fn first_of(front: &Front) -> Option<u64>
 /// The front line with this number, with the places of its ends.
 fn line_of(front: &Front, n: u64) -> Line
     requires { is_some (line_at front.now.lines n) ≡ true }
-    ensures first { ahead front.now.lines (Some n) ≡ numbers_of result ∷ ahead front.now.lines (number_above front.now.lines n) }
+    ensures first { ahead front.now.lines (Some n) ≡
+        numbers_of result ∷ ahead front.now.lines (number_above front.now.lines n) }
     ensures number { result.number ≡ n }
     ensures drawn { result ≡ drawn front.now.points (numbers_of result) }
     ensures on_grid { IsLineOnGrid result }

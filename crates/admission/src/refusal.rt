@@ -2,9 +2,10 @@
 use grid_geom::{Element, Point};
 use list_of::List;
 
-/// Why the elements may not be glued one after another: the first one that may not, by the first condition that fails, at the least line or
-/// point. Elements are numbered from 1 in the call. Lines and points have the numbers that they have once the new points are listed and the
-/// elements before are glued.
+/// Why the elements may not be glued one after another: the first one that may not, by the first
+/// condition that fails, at the least line or point. Elements are numbered from 1 in the call.
+/// Lines and points have the numbers that they have once the new points are listed and the elements
+/// before are glued.
 #[derive(Clone, Copy, Debug, PartialEq, Eq)]
 pub enum GlueRefusal {
     /// The element is not positively turned.

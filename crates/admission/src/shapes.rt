@@ -63,7 +63,8 @@ pub fn shapes_of(
     requires on_grid { All IsOnGrid made.now }
     requires three { All (λ ns. length ns ≡ 3) elements.now }
     requires listed { All (AreListed (length (all_points front.now made.now))) elements.now }
-    ensures value { IfOk result (λ v. v.items ≡ map (shape_at (all_points front.now made.now)) elements.now) }
+    ensures value { IfOk result (λ v. v.items ≡
+        map (shape_at (all_points front.now made.now)) elements.now) }
     ensures on_grid { IfOk result (λ v. All (λ s. IsTriangleOnGrid s.t) v.items) }
 {
     let mut shapes = Vec::with_capacity(alloc, elements.len())?;

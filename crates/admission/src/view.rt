@@ -25,8 +25,8 @@ use grid_geom::{Bounds, Edge};
 use std::alloc::{AllocError as OutOfMemory, Global};
 use wind_law::winding;
 
-/// The front as the elements so far have left it: its lines near a box that holds all elements, the next line number, its doubled area, and the sides of the
-/// elements so far.
+/// The front as the elements so far have left it: its lines near a box that holds all elements, the
+/// next line number, its doubled area, and the sides of the elements so far.
 #[derive(Debug, Drop)]
 pub struct View {
     pub near: Bounds,
@@ -40,14 +40,16 @@ pub struct View {
 fn winds_once(front: &Front, taken: &[Edge], t: &Triangle) -> bool
     requires corners_on { IsTriangleOnGrid t.now }
     requires taken_on { AreOnGrid taken.now }
-    ensures { IsTrue result ↔ (wind (centre (corners_of_triangle t.now)) (edges_of front.now) ≡ wind (centre (corners_of_triangle t.now)) taken.now +ℤ pos 1) }
+    ensures { IsTrue result ↔ (wind (centre (corners_of_triangle t.now)) (edges_of front.now) ≡
+        wind (centre (corners_of_triangle t.now)) taken.now +ℤ pos 1) }
 {
     let q = t.centre();
     winding_of(front, &q) == winding(taken, &q) as i128 + 1
 }
 
 impl View {
-    /// Glues the element: each of its sides that is a line leaves, and each other side joins reversed with the next number.
+    /// Glues the element: each of its sides that is a line leaves, and each other side joins
+    /// reversed with the next number.
     pub fn glue(&mut self, shape: &Shape) -> Result<(), OutOfMemory>
         requires corners_on { IsTriangleOnGrid shape.now.t }
         requires room { self.old.next + 3 < 2 ^ 64 }
@@ -71,7 +73,9 @@ pub fn verdict(front: &Front, view: &View, shape: &Shape, element: u64) -> Optio
     requires corners_on { IsTriangleOnGrid shape.now.t }
     requires lines_on { All IsLineOnGrid view.now.lines.items }
     requires taken_on { AreOnGrid view.now.taken.items }
-    ensures { (st : State) (box : AnyBounds) → IsViewOf front.now box st view.now → IsShapeIn box shape.now → IsVerdict st (corners_of_triangle shape.now.t) element result }
+    ensures { (st : State) (box : AnyBounds) → IsViewOf front.now box st view.now →
+        IsShapeIn box shape.now →
+        IsVerdict st (corners_of_triangle shape.now.t) element result }
 {
     let t = &shape.t;
     if !t.turned() {
