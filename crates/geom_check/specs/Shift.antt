@@ -3,7 +3,8 @@
 -- magnitude_at   a number's absolute value in units, rounded half away from zero
 -- FitsAt         it has at most 2 ^ 14 units
 -- grid_at        a coordinate in grid steps
--- size_at        a length in grid steps
+-- length_at      a length in grid steps
+-- size_at        a greatest size in grid steps, where it has an effect
 -- IsShift        the finest shift at which each point of a file fits
 use Rattle.std.specs.Prelude.{ℕ, zero, suc, ◌+◌, ◌*◌, ◌/◌, ◌^◌, ◌≤◌, min, max, List, All, Option, Some, None, ℤ, pos, negsuc, ◌+ℤ◌, neg_ℤ, ◌≤ℤ◌, ◌<ℤ◌, unsigned_abs}
 use Rattle.word_scan.specs.declared.decimals.Dec.{Dec}

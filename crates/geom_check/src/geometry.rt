@@ -1,11 +1,15 @@
 // An accepted geometry.
 
 ghost use Rattle.std.specs.Prelude.{◌≡◌};
-ghost use Rattle.geom_check.specs.Geometry.{PlanarMap, IsGeometry, map_of};
+ghost use Rattle.geom_check.specs.Shift.{length_at};
+ghost use Rattle.geom_check.specs.Placed.{IsReadableNumber};
+ghost use Rattle.geom_check.specs.Geometry.{PlanarMap, IsGeometry, IsLength, map_of};
 
 use crate::kinds::{Domain, Domains, Segment, Segments, Source, Sources};
+use crate::scale::Scale;
 use grid_geom::{Point, Points};
 use std::marker::Model;
+use word_scan::Dec;
 
 /// An accepted geometry on the grid. It keeps in its type that it is one.
 #[derive(Debug, Drop)]
@@ -86,5 +90,15 @@ impl Geometry {
         ensures accepted { IsGeometry self.now }
     {
         self.domains.as_slice()
+    }
+
+    /// A length of the file in grid steps, rounded downwards: at least 1, and at most `LONGEST`.
+    pub fn length_in_steps(&self, length: &Dec) -> u64
+        requires { IsReadableNumber length.now }
+        ensures value { result ≡ length_at self.now.shift length.now }
+        ensures bounds { IsLength result }
+    {
+        let scale = Scale { shift: self.shift };
+        scale.length(length)
     }
 }

@@ -129,7 +129,7 @@ impl Scale {
     }
 
     /// A length in grid steps, rounded downwards: at least 1, and at most `LONGEST`.
-    fn length(&self, v: &Dec) -> u64
+    pub fn length(&self, v: &Dec) -> u64
         requires number { IsReadableNumber v.now }
         requires scale { IsScale self.now }
         ensures { result ≡ length_at self.now.shift v.now }
