@@ -36,7 +36,7 @@ pub const GREATEST_DENOMINATOR: i128 = 1_125_899_906_842_624;
 pub const MOST_CORNERS: usize = 1_048_576;
 
 /// A point of the grid, in grid steps.
-#[derive(Clone, Copy, Debug, PartialEq, Eq, Hash)]
+#[derive(Clone, Copy, Debug, PartialEq, Eq, Hash, Default)]
 pub struct Point {
     pub x: i64,
     pub y: i64,

@@ -1,11 +1,8 @@
 // Applications of rules.
 
-ghost use Rattle.std.specs.Prelude.{◌≡◌, List};
-ghost use Rattle.mesh_run.specs.declared.application.Application.{Application as Step};
-
 use super::{Elements, PointNumbers};
 use grid_geom::Points;
-use std::marker::Model;
+use list_of::List;
 
 /// One application of a rule to a domain's front.
 #[derive(Debug, Drop)]
@@ -24,37 +21,5 @@ pub struct Application {
     pub elements: Elements,
 }
 
-/// Applications in order of making, seen as their list.
-#[derive(Debug, Drop)]
-pub struct Applications {
-    items: Vec<Application>,
-}
-
-impl Model for Applications {
-    ghost Value = { List Step };
-
-    ghost view = { λ list. list.items.items };
-}
-
-impl Applications {
-    /// The list of these applications. Takes no memory.
-    pub fn from_vec(items: Vec<Application>) -> Applications
-        ensures { result ≡ items.items }
-    {
-        Applications { items }
-    }
-
-    /// The applications in their order.
-    pub fn as_slice(&self) -> &[Application]
-        ensures { result.now ≡ self.now }
-    {
-        &self.items
-    }
-
-    /// The applications, given back as the vector that they came in. Takes no memory.
-    pub fn into_vec(self) -> Vec<Application>
-        ensures { result.items ≡ self }
-    {
-        self.items
-    }
-}
+/// Applications in order of making.
+pub type Applications = List<Application>;

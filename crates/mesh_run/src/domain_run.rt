@@ -1,11 +1,8 @@
 // Runs of single domains.
 
-ghost use Rattle.std.specs.Prelude.{◌≡◌, List};
-ghost use Rattle.mesh_run.specs.declared.domain_run.DomainRun.{DomainRun as OneRun};
-
 use super::{Applications, End, FrontRows, OpeningLines};
 use grid_geom::Points;
-use std::marker::Model;
+use list_of::List;
 
 /// The run of one domain.
 #[derive(Debug, Drop)]
@@ -25,37 +22,5 @@ pub struct DomainRun {
     pub end: End,
 }
 
-/// The runs of domains by rising number, seen as their list.
-#[derive(Debug, Drop)]
-pub struct DomainRuns {
-    items: Vec<DomainRun>,
-}
-
-impl Model for DomainRuns {
-    ghost Value = { List OneRun };
-
-    ghost view = { λ list. list.items.items };
-}
-
-impl DomainRuns {
-    /// The list of these runs. Takes no memory.
-    pub fn from_vec(items: Vec<DomainRun>) -> DomainRuns
-        ensures { result ≡ items.items }
-    {
-        DomainRuns { items }
-    }
-
-    /// The runs in their order.
-    pub fn as_slice(&self) -> &[DomainRun]
-        ensures { result.now ≡ self.now }
-    {
-        &self.items
-    }
-
-    /// The runs, given back as the vector that they came in. Takes no memory.
-    pub fn into_vec(self) -> Vec<DomainRun>
-        ensures { result.items ≡ self }
-    {
-        self.items
-    }
-}
+/// The runs of domains by rising number.
+pub type DomainRuns = List<DomainRun>;
