@@ -56,4 +56,4 @@ abbrev pub boundary : List Point → ℕ → List Segment → List Edge
 boundary points domain [] = []
 boundary points domain (s ∷ ss) =
     with_edge (s.left == domain) (edge_of points s)
-        (with_edge (s.right == domain) (back (edge_of points s)) (boundary points domain ss))
+    (with_edge (s.right == domain) (back (edge_of points s)) (boundary points domain ss))

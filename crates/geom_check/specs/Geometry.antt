@@ -34,8 +34,13 @@ pub record PlanarMap : Type 0 where
 -- the map of these parts
 abbrev pub map_of : ℤ → List Point → List Segment → List Source → List Domain → PlanarMap
 map_of shift points segments flagged domains =
-    record { shift = shift; points = points; segments = segments; flagged = flagged;
-        domains = domains }
+    record {
+      shift = shift;
+      points = points;
+      segments = segments;
+      flagged = flagged;
+      domains = domains;
+    }
 
 -- a source in front, where the point has a size
 abbrev pub with_source : Point → Option ℕ → List Source → List Source

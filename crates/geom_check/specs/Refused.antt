@@ -104,7 +104,7 @@ IsFault (Side domain at) points segments =
     PastBoundaries points segments (IsLeastSide points segments domain at)
 IsFault (Overlap at) points segments =
     PastWindings points segments
-        (IsWitness (DoOverlap points segments) (edges_of points segments) at)
+    (IsWitness (DoOverlap points segments) (edges_of points segments) at)
 IsFault Memory points segments = ⊥
 
 -- a fault on the grid, at the file's shift

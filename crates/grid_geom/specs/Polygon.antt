@@ -30,7 +30,7 @@ after corners i = (i + 1) % length corners
 abbrev pub IsLeftOfRest : List Point → ℕ → Type 0
 IsLeftOfRest corners i = (j : ℕ) → j < length corners → j ≢ i → j ≢ after corners i →
     pos 0 <ℤ orient (corner_at corners i) (corner_at corners (after corners i))
-        (corner_at corners j)
+    (corner_at corners j)
 
 -- at least three corners, and each that is not an end of a side is strictly left of it
 pub record IsStrictlyConvex (corners : List Point) : Type 0 where

@@ -38,7 +38,9 @@ plain_parts sign digits places = record {
 
 abbrev pub power_parts : Sign → List ℕ → ℤ → DecimalParts
 power_parts sign digits scale = record {
-  sign = sign; front = digits; fraction = None;
+  sign = sign;
+  front = digits;
+  fraction = None;
   power = Some
       (record { letter = 101; sign = sign_of scale; digits = decimal (unsigned_abs scale) });
 }
@@ -55,7 +57,7 @@ is_plain scale = int_le (negsuc 19) scale && int_le scale (pos 0)
 abbrev pub normal_parts : Dec → DecimalParts
 normal_parts d = if is_plain d.scale
     then plain_parts (sign_of d.digits)
-        (filled (unsigned_abs d.scale) (decimal (unsigned_abs d.digits))) (unsigned_abs d.scale)
+    (filled (unsigned_abs d.scale) (decimal (unsigned_abs d.digits))) (unsigned_abs d.scale)
     else power_parts (sign_of d.digits) (decimal (unsigned_abs d.digits)) d.scale
 
 unfoldable pub decimal_text : Dec → Word

@@ -64,24 +64,49 @@ abbrev pub Step : Type 0
 Step = Result Draft In2dRefusal
 
 abbrev pub at_spot : Draft → Spot → Draft
-at_spot d spot = record { number = d.number; points = d.points; segments = d.segments;
-    materials = d.materials; spot = spot }
+at_spot d spot = record {
+  number = d.number;
+  points = d.points;
+  segments = d.segments;
+  materials = d.materials;
+  spot = spot;
+}
 
 abbrev pub with_point : Draft → PointRow → Draft
-with_point d row = record { number = d.number; points = d.points ++ row ∷ []; segments = d.segments;
-    materials = d.materials; spot = d.spot }
+with_point d row = record {
+  number = d.number;
+  points = d.points ++ row ∷ [];
+  segments = d.segments;
+  materials = d.materials;
+  spot = d.spot;
+}
 
 abbrev pub with_segment : Draft → SegmentRow → Draft
-with_segment d row = record { number = d.number; points = d.points;
-    segments = d.segments ++ row ∷ []; materials = d.materials; spot = d.spot }
+with_segment d row = record {
+  number = d.number;
+  points = d.points;
+  segments = d.segments ++ row ∷ [];
+  materials = d.materials;
+  spot = d.spot;
+}
 
 abbrev pub with_material : Draft → MaterialRow → Draft
-with_material d row = record { number = d.number; points = d.points; segments = d.segments;
-    materials = d.materials ++ row ∷ []; spot = d.spot }
+with_material d row = record {
+  number = d.number;
+  points = d.points;
+  segments = d.segments;
+  materials = d.materials ++ row ∷ [];
+  spot = d.spot;
+}
 
 abbrev pub with_number : Draft → Dec → Draft
-with_number d number = record { number = number; points = d.points; segments = d.segments;
-    materials = d.materials; spot = d.spot }
+with_number d number = record {
+  number = number;
+  points = d.points;
+  segments = d.segments;
+  materials = d.materials;
+  spot = d.spot;
+}
 
 -- a value that is read, or the refusal there
 abbrev pub or_else : {A : Type 0} → Option A → In2dRefusal → Result A In2dRefusal
@@ -122,8 +147,14 @@ abbrev pub sized_point : PointRow → Option Dec → PointRow
 sized_point row maxh = record { number = row.number; x = row.x; y = row.y; maxh = maxh }
 
 abbrev pub flagged_segment : SegmentRow → Option ℕ → Option Dec → SegmentRow
-flagged_segment row bc maxh = record { left = row.left; right = row.right; p = row.p; q = row.q;
-    bc = bc; maxh = maxh }
+flagged_segment row bc maxh = record {
+  left = row.left;
+  right = row.right;
+  p = row.p;
+  q = row.q;
+  bc = bc;
+  maxh = maxh;
+}
 
 abbrev pub sized_material : MaterialRow → Option Dec → MaterialRow
 sized_material row maxh = record { domain = row.domain; name = row.name; maxh = maxh }
@@ -213,7 +244,7 @@ unfoldable pub material_step : Draft → MaterialSpot → ℕ → Word → Step
 material_step d NoMaterial at word = material_start d at word
 material_step d (MaterialName domain) at word = if is_name word
     then Ok (at_spot d (InMaterials
-        (MaterialEnd (record { domain = domain; name = word; maxh = None }))))
+    (MaterialEnd (record { domain = domain; name = word; maxh = None }))))
     else Err (Syntax at)
 material_step d (MaterialEnd row) at word = if is_flag word then material_flag d row at word
     else material_start (with_material d row) at word
@@ -231,8 +262,13 @@ step strict d at word = spot_step strict d d.spot at word
 
 -- nothing is read yet
 abbrev pub nothing_read : Draft
-nothing_read = record { number = record { digits = pos 0; scale = pos 0 }; points = [];
-    segments = []; materials = []; spot = InHead heads.First }
+nothing_read = record {
+  number = record { digits = pos 0; scale = pos 0 };
+  points = [];
+  segments = [];
+  materials = [];
+  spot = InHead heads.First;
+}
 
 -- the words one after another, the first of them with number `at`
 unfoldable pub steps : Bool → Draft → ℕ → List Word → Step
@@ -241,8 +277,12 @@ steps strict d at (word ∷ words) =
     step strict d at word >>= λ next. steps strict next (at + 1) words
 
 abbrev pub whole_raw : Draft → RawGeometry
-whole_raw d = record { number = d.number; points = d.points; segments = d.segments;
-    materials = d.materials }
+whole_raw d = record {
+  number = d.number;
+  points = d.points;
+  segments = d.segments;
+  materials = d.materials;
+}
 
 unfoldable pub finish_spot : Draft → Spot → ℕ → Result RawGeometry In2dRefusal
 finish_spot d (InHead spot) at = Err (Syntax at)

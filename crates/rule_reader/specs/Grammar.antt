@@ -41,8 +41,10 @@ abbrev pub plain : Tok → Said
 plain word = record { word = word; index = None }
 
 abbrev pub naming : Tok → Bound → ℕ → Said
-naming word bound value = record { word = word;
-    index = Some (record { bound = bound; value = value }) }
+naming word bound value = record {
+  word = word;
+  index = Some (record { bound = bound; value = value });
+}
 
 abbrev pub words : List Said → List Tok
 words said = map (λ s. s.word) said

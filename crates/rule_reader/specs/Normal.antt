@@ -113,8 +113,8 @@ sections_text r =
     section_text (codes "newlines\n") pair_text r.new_lines ++ (
     section_text (codes "freearea\n") place_text r.area ++ (
     section_text (codes "freearea2\n") place_text r.limit
-        ++ (section_text (codes "elements\n") element_text r.elements
-        ++ section_text (codes "orientations\n") turn_text r.turns)
+    ++ (section_text (codes "elements\n") element_text r.elements
+    ++ section_text (codes "orientations\n") turn_text r.turns)
     )
     )
     )

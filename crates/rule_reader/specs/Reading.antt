@@ -172,7 +172,7 @@ del_at st = if is_at del_word st then (name_at del_word st >>= λ d. Ok (true, d
 unfoldable pub marks_at : State → Read (Triple × Bool)
 marks_at st =
     if is_at del_word st then (name_at del_word st >>= λ u. tolerance_at u.1 >>= λ tol. Ok
-        ((tol.0, true), tol.1))
+    ((tol.0, true), tol.1))
     else if opens 123 st then (triple_at st >>= λ tol. del_at tol.1 >>= λ d. Ok ((tol.0, d.0), d.1))
     else Ok ((unit_weights, false), st)
 

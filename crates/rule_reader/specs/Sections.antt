@@ -18,8 +18,17 @@ use Rattle.rule_reader.specs.Reading.{Read, ◌>>=◌, judged, is_at, name_at, n
 use Rattle.rule_reader.specs.Verdict.{verdict}
 
 abbrev pub empty_parts : Parts
-empty_parts = record { quality = None; points = None; lines = None; new_points = None;
-    new_lines = None; area = None; limit = None; elements = None; turns = None }
+empty_parts = record {
+  quality = None;
+  points = None;
+  lines = None;
+  new_points = None;
+  new_lines = None;
+  area = None;
+  limit = None;
+  elements = None;
+  turns = None;
+}
 
 abbrev pub section_of : List ℕ → Option SectionKind
 section_of name =

@@ -56,8 +56,11 @@ behind st = record { left = rest st.left; uses = st.uses; rule = st.rule }
 
 -- where so many words were left, this index was used
 abbrev pub noted : Bound → ℕ → ℕ → State → State
-noted bound index left st = record { left = st.left;
-    uses = st.uses ++ record { left = left; index = index; bound = bound } ∷ []; rule = st.rule }
+noted bound index left st = record {
+  left = st.left;
+  uses = st.uses ++ record { left = left; index = index; bound = bound } ∷ [];
+  rule = st.rule;
+}
 
 -- at the beginning of the rule of this number
 abbrev pub begun : ℕ → State → State

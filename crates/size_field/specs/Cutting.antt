@@ -84,8 +84,11 @@ greatest_in domains greatest domain = at_most greatest (size_of_domain domains d
 -- the sizes of a domain before cutting: the sources are those of the file's points
 abbrev pub field_before : PlanarMap → ℕ → ℕ → ℕ → SizeField
 field_before g greatest grading domain =
-    record { greatest = greatest_in g.domains greatest domain; grading = grading;
-    sources = g.flagged }
+    record {
+      greatest = greatest_in g.domains greatest domain;
+      grading = grading;
+      sources = g.flagged;
+    }
 
 -- how long a piece may be whose middle is m and on whose side this domain lies; the outside, 0, allows any length
 abbrev pub side_bound : PlanarMap → ℕ → ℕ → ℕ → Point → ℕ

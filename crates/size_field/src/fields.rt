@@ -52,8 +52,10 @@ fn add_piece(
     requires of_segment { IsPieceOf segments.now piece.now }
     requires part { IsPart (piece_edge piece.now) }
     ensures { OnOk result (sizes.new
-        ≡ record sizes.old { sources = sizes.old.sources
-        ++ sources_beside domain segments.now piece.now }) }
+        ≡ record sizes.old {
+          sources = sizes.old.sources
+              ++ sources_beside domain segments.now piece.now;
+        }) }
 {
     let segment = &segments[piece.segment - 1];
     if segment.left == domain || segment.right == domain {

@@ -62,13 +62,13 @@ pub data HasReason (points : List Point) (front witnesses : List Edge) (t : Atte
   line_hinders : (before : List (List Point)) (cs : List Point) (after : List (List Point))
       → IsSplit t.elements before cs after →
       (w : Edge) → (IsIn w front → IsIn w witnesses)
-          → pos 1 ≤ℤ (net w front -ℤ net w (all_sides before)) → ¬ (IsClearOf cs w)
-          → HasReason points front witnesses t
+      → pos 1 ≤ℤ (net w front -ℤ net w (all_sides before)) → ¬ (IsClearOf cs w)
+      → HasReason points front witnesses t
   outside_front : (before : List (List Point)) (cs : List Point) (after : List (List Point))
       → IsSplit t.elements before cs after → AllByRecursion IsStrictlyConvex before
       → IsStrictlyConvex cs →
       (q : RatPoint) → IsRational q → IsInPolygon q cs → IsOff q (glue_all front before)
-          → wind q (glue_all front before) ≤ℤ pos 0 → HasReason points front witnesses t
+      → wind q (glue_all front before) ≤ℤ pos 0 → HasReason points front witnesses t
   too_large : (before : List (List Point)) (cs : List Point) (after : List (List Point))
       → IsSplit t.elements before cs after → shoelace (glue_all front before) <ℤ shoelace (sides cs)
       → HasReason points front witnesses t

@@ -105,8 +105,10 @@ sign_at (b ∷ bytes) = if b == 45 then (true, bytes)
     else (false, b ∷ bytes)
 
 abbrev pub digits_at : List ℕ → List ℕ × List ℕ
-digits_at bytes = (take (prefix_len is_ascii_digit bytes) bytes,
-    drop (prefix_len is_ascii_digit bytes) bytes)
+digits_at bytes = (
+  take (prefix_len is_ascii_digit bytes) bytes,
+  drop (prefix_len is_ascii_digit bytes) bytes,
+)
 
 abbrev pub fraction_at : List ℕ → List ℕ × List ℕ
 fraction_at [] = ([], [])
@@ -128,8 +130,10 @@ made_of minus front behind None = None
 made_of minus front behind (Some power) = if nat_lt 0 (length front + length behind)
     && nat_le (length front + length behind) 30
     && nat_le (unsigned_abs (power -ℤ pos (length behind))) 99
-    then Some (record { digits = signed minus (value_of (front ++ behind));
-    scale = power -ℤ pos (length behind) }) else None
+    then Some (record {
+      digits = signed minus (value_of (front ++ behind));
+      scale = power -ℤ pos (length behind);
+    }) else None
 
 abbrev pub after_fraction : Bool → List ℕ → List ℕ × List ℕ → Option Dec
 after_fraction minus front (behind, rest) = made_of minus front behind (exponent_at rest)

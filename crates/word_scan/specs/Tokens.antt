@@ -39,7 +39,7 @@ number_len bytes =
     let front = digits_at (sign_at bytes).1 in
     let fraction = fraction_at front.1 in
     if nat_lt 0 (length front.0 + length fraction.0) then Some (length bytes - length fraction.1)
-        else None
+    else None
 
 abbrev pub of_kind : Kind → ℕ → Option ℕ → Option (Kind × ℕ)
 of_kind kind more len = option_and_then (λ n. Some (kind, n + more)) len
