@@ -67,11 +67,8 @@ pub(crate) fn write(
         }
         3 => write!(text, "rule {named}: {}", excess(second)),
         4 => {
-            write!(text, "rule {named}: ")?;
-            write_word(text, spot.as_ref())?;
-            text.push_str(
-                " names no point that may stand here, or ends a rule without a mapped line",
-            )
+            write!(text, "rule {named}")?;
+            write_index(text, spot.as_ref())
         }
         _ => write!(text, "rule {named} has four or more loose starts"),
     }
@@ -82,5 +79,20 @@ fn write_word(text: &mut String, spot: Option<&Spot<'_>>) -> Result<(), AllocErr
     match spot {
         Some(spot) => push_quoted(text, spot.word),
         None => text.push_str("a number"),
+    }
+}
+
+/// Writes that an index names no point, or that the rule ends without a mapped line.
+fn write_index(text: &mut String, spot: Option<&Spot<'_>>) -> Result<(), AllocError> {
+    match spot {
+        Some(spot) if spot.word == b"endrule".as_slice() => text.push_str(" has no mapped line"),
+        Some(spot) => {
+            text.push_str(": ")?;
+            push_quoted(text, spot.word)?;
+            text.push_str(" names no point that may stand here")
+        }
+        None => text.push_str(
+            " has no mapped line, or an index names no point that may stand here",
+        ),
     }
 }
