@@ -5,7 +5,7 @@ use Rattle.grid_geom.specs.declared.Edge.{Edge}
 use Rattle.geom_check.specs.declared.kinds.Segment.{Segment}
 use Rattle.size_field.specs.declared.pieces.Piece.{Piece}
 use Rattle.mesh_run.specs.declared.End.{End}
-use Rattle.mesh_run.specs.declared.application.Application.{Application}
+use Rattle.rule_match.specs.declared.application.Application.{Application}
 use Rattle.mesh_run.specs.Boundary.{piece_boundary, piece_edge}
 use Rattle.mesh_run.specs.Numbering.{by_first_occurrence, ends_of, is_among}
 use Rattle.mesh_run.proofs.Listed.{among_first, first_again}

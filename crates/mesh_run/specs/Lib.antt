@@ -6,3 +6,8 @@ pub mod Numbering
 pub mod Opening
 pub mod Whole
 pub mod Mesh
+-- Steps: which application comes next, and the states one after another. Runs: the run of a domain and of all domains by rules.
+-- Sum: what is true after each application.
+pub mod Steps
+pub mod Runs
+pub mod Sum

@@ -1,10 +1,11 @@
 -- What this crate's words mean, in the order of standing on each other.
 -- Order: which of two finds comes first.
 pub mod Order
--- Candidate, Applied: when a rule applies at a line and what it does. Least: the least candidate of a line at a class.
+-- Candidate, Applied: when a rule applies at a line and what it does. Least: the least candidate of a line at a class. Best: its application.
 pub mod Candidate
 pub mod Applied
 pub mod Least
+pub mod Best
 -- Refused: why no candidate is there.
 pub mod Refused
 -- Walk: what a search promises.

@@ -16,7 +16,7 @@ use Rattle.mesh_run.specs.declared.Options.{Options}
 use Rattle.mesh_run.specs.declared.End.{End}
 use Rattle.mesh_run.specs.declared.End.TheVariants.{Done, Stuck, Stopped}
 use Rattle.mesh_run.specs.declared.WholeRun.{WholeRun}
-use Rattle.mesh_run.specs.declared.application.Application.{Application}
+use Rattle.rule_match.specs.declared.application.Application.{Application}
 use Rattle.mesh_run.specs.declared.domain_run.DomainRun.{DomainRun}
 
 -- how a run ended
