@@ -52,12 +52,12 @@ applied st a = glued_on (with_points st a.made) a.elements
 -- the state after these applications
 abbrev pub state_after : State → List Application → State
 state_after st [] = st
-state_after st (a ∷ as) = state_after (applied st a) as
+state_after st (a ∷ others) = state_after (applied st a) others
 
 -- each application is the next one of the state that those before it leave
 abbrev pub AreNext : RunSetting → State → List Application → Type 0
 AreNext s st [] = Unit {0}
-AreNext s st (a ∷ as) = IsNext s st a × AreNext s (applied st a) as
+AreNext s st (a ∷ others) = IsNext s st a × AreNext s (applied st a) others
 
 -- ---- ends
 -- at least as many applications were made as are allowed
