@@ -60,7 +60,7 @@ pub record IsDomainRun (g : PlanarMap) (rules : List Rule) (options : Options) (
 -- the runs of the domains that the segments name, by rising number; Stopped if one is, else Stuck if one is, else Done
 pub record IsWholeRun (g : PlanarMap) (rules : List Rule) (options : Options) (w : WholeRun) : Type 0 where
   pub shift : w.shift ≡ g.shift
-  pub choices : w.options ≡ options
+  pub with_options : w.options ≡ options
   pub pieces : w.pieces ≡ pieces_by g options
   pub domains : AllZip (IsDomainRun g rules options) (domain_numbers g.segments) w.domains
   pub end : w.end ≡ end_of_all w.domains

@@ -25,7 +25,7 @@ pub record RunSetting : Type 0 where
   pub rules : List Rule
   pub last : ℕ
 
--- a class and line come before others: a lower class, or a lower line at the same class
+-- a class and line come before more: a lower class, or a lower line at the same class
 abbrev pub IsBefore : ℕ → ℕ → Application → Type 0
 IsBefore class line a = (class < a.class) ⊎ ((class ≡ a.class) × (line < a.line))
 
@@ -52,12 +52,12 @@ applied st a = glued_on (with_points st a.made) a.elements
 -- the state after these applications
 abbrev pub state_after : State → List Application → State
 state_after st [] = st
-state_after st (a ∷ others) = state_after (applied st a) others
+state_after st (a ∷ more) = state_after (applied st a) more
 
 -- each application is the next one of the state that those before it leave
 abbrev pub AreNext : RunSetting → State → List Application → Type 0
 AreNext s st [] = Unit {0}
-AreNext s st (a ∷ others) = IsNext s st a × AreNext s (applied st a) others
+AreNext s st (a ∷ more) = IsNext s st a × AreNext s (applied st a) more
 
 -- ---- ends
 -- at least as many applications were made as are allowed
