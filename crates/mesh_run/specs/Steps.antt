@@ -25,7 +25,7 @@ pub record RunSetting : Type 0 where
   pub rules : List Rule
   pub last : ℕ
 
--- a class and line come before more: a lower class, or a lower line at the same class
+-- a class and line come before others: a lower class, or a lower line at the same class
 abbrev pub IsBefore : ℕ → ℕ → Application → Type 0
 IsBefore class line a = (class < a.class) ⊎ ((class ≡ a.class) × (line < a.line))
 
