@@ -14,16 +14,16 @@ use Rattle.front_chain.specs.Front.{line_at, number_above}
 use Rattle.admission.specs.Around.{from_number, ahead, IsThere}
 
 -- a line by its numbers
-abbrev Triple : Type 0
+abbrev pub Triple : Type 0
 Triple = ℕ × ℕ × ℕ
 
-eq_self : (n : ℕ) → nat_eq n n ≡ true
+pub eq_self : (n : ℕ) → nat_eq n n ≡ true
 eq_self n = grind arith
 
-eq_less : (m n : ℕ) → m < n → nat_eq m n ≡ false
+pub eq_less : (m n : ℕ) → m < n → nat_eq m n ≡ false
 eq_less m n h = grind arith
 
-eq_more : (m n : ℕ) → n < m → nat_eq m n ≡ false
+pub eq_more : (m n : ℕ) → n < m → nat_eq m n ≡ false
 eq_more m n h = grind arith
 
 lt_true : (m n : ℕ) → m < n → nat_lt m n ≡ true
@@ -33,10 +33,10 @@ lt_false : (m n : ℕ) → n ≤ m → nat_lt m n ≡ false
 lt_false m n h = grind arith
 
 -- ---- steps of the definitions
-line_here : (line : Triple) (lines : List Triple) (n : ℕ) → nat_eq line.0 n ≡ true → line_at (line ∷ lines) n ≡ Some (line.1, line.2)
+pub line_here : (line : Triple) (lines : List Triple) (n : ℕ) → nat_eq line.0 n ≡ true → line_at (line ∷ lines) n ≡ Some (line.1, line.2)
 line_here line lines n e = ap (λ b. option_map (λ (l : Triple). (l.1, l.2)) (cond b (Some line) (find (λ (l : Triple). nat_eq l.0 n) lines))) e
 
-line_later : (line : Triple) (lines : List Triple) (n : ℕ) → nat_eq line.0 n ≡ false → line_at (line ∷ lines) n ≡ line_at lines n
+pub line_later : (line : Triple) (lines : List Triple) (n : ℕ) → nat_eq line.0 n ≡ false → line_at (line ∷ lines) n ≡ line_at lines n
 line_later line lines n e = ap (λ b. option_map (λ (l : Triple). (l.1, l.2)) (cond b (Some line) (find (λ (l : Triple). nat_eq l.0 n) lines))) e
 
 above_here : (line : Triple) (lines : List Triple) (n : ℕ) → nat_lt n line.0 ≡ true → number_above (line ∷ lines) n ≡ Some line.0

@@ -33,7 +33,7 @@ hindered R cs points (line ∷ front) n w c h = elim h [ inl r ↦ w (drawn poin
 too_large : (a b left : ℤ) → left ≡ a → left <ℤ b → b ≤ℤ a → ⊥
 too_large a b left e l h = omega (arith, ints, e, l, h)
 
-why_not : (st : State) (cs : List Point) (k : ℕ) (r : GlueRefusal) → SaysWhy st cs k r → MayBeGlued cs (edges_at st) → ⊥
+pub why_not : (st : State) (cs : List Point) (k : ℕ) (r : GlueRefusal) → SaysWhy st cs k r → MayBeGlued cs (edges_at st) → ⊥
 why_not st cs k (Turned element) h m = h.1 m.turned
 why_not st cs k (Met element line) h m = hindered (IsLine (IsMet cs)) cs st.points st.front line (met_hinders cs) m.clear h.2.holds
 why_not st cs k (PointOnSide element point) h m = hindered (IsEnd (IsOnSide cs)) cs st.points st.front point (on_side_hinders cs) m.clear h.2.holds

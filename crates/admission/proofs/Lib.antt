@@ -3,6 +3,7 @@ pub mod Spans
 pub mod Held
 -- The front line by line, and its winding number summed.
 pub mod Ahead
+pub mod NearWalk
 pub mod Sums
 pub mod Casts
 -- The least numbers of what hinders an element, among near lines and among all.
@@ -20,5 +21,6 @@ pub mod Order
 pub mod Turns
 -- What an answer says.
 pub mod Answered
+pub mod OneRefusal
 -- For tests.
 pub mod Worked

@@ -1,5 +1,6 @@
 -- The lines of a state near a box, with their places; a side glued to them.
 use Rattle.std.specs.Prelude.{◌≡◌, ℕ, ◌+◌, Bool, true, false, cond, ◌&&◌, nat_eq, List, [], ◌∷◌, ◌++◌, map, filter, slice_index_or, ◌≤ℤ◌, Option, None, Some, is_some}
+use Rattle.std.specs.Option.{option_map_or}
 use Rattle.std.specs.List.{AllByRecursion, list_any}
 use Rattle.grid_geom.specs.declared.Point.{Point}
 use Rattle.grid_geom.specs.declared.Bounds.{Bounds}
@@ -65,6 +66,14 @@ is_close b points line = does_meet b (pair_edge points (line.1, line.2))
 -- the lines near b, in their order
 abbrev pub lines_near : Bounds → List Point → List (ℕ × ℕ × ℕ) → List Line
 lines_near b points front = map (drawn points) (filter (is_close b points) front)
+
+-- their numbers, in their order
+abbrev pub numbers_near : Bounds → FrontState → List ℕ
+numbers_near b f = map (λ line. line.0) (filter (is_close b f.points) f.lines)
+
+-- the line with a number, with the places of its ends, where there is one
+abbrev pub drawn_at : FrontState → ℕ → Line
+drawn_at f n = option_map_or (λ ends. drawn f.points (n, ends.0, ends.1)) (line_at f.lines n) (drawn f.points (n, 0, 0))
 
 -- the lines from the one with a number on, in their order; none where no number is given
 abbrev pub from_number : List (ℕ × ℕ × ℕ) → ℕ → List (ℕ × ℕ × ℕ)

@@ -14,6 +14,13 @@ pub fn law_refusal()
         IsRefusal st elements k r → ¬ (MayFollow st elements) }
 {}
 
+/// Elements have one refusal at most. So a refused call names the fault of its elements, and in no other
+/// way.
+pub fn law_one_refusal()
+    ensures { (st : State) (elements : List (List ℕ)) (k : ℕ) (r s : AnyRefusal) →
+        IsRefusal st elements k r → IsRefusal st elements k s → r ≡ s }
+{}
+
 /// Of admitted elements each meets the condition of `Front::glue` once the new points are listed and
 /// those before it are glued, and gluing it leads on to the next.
 pub fn law_follows()

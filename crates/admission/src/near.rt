@@ -1,30 +1,16 @@
 // The lines of a front: those near a box, and how often all of them wind round a point.
-ghost use Rattle.std.specs.Prelude.{◌≡◌, ◌∷◌, Some, true, IfOk, is_some};
+ghost use Rattle.std.specs.Prelude.{◌≡◌, ◌∷◌, All, Some, true, IfOk, is_some, filter};
 ghost use Rattle.grid_geom.specs.Bounds.{IsMeasured};
 ghost use Rattle.grid_geom.specs.Winding.{wind};
-ghost use Rattle.wind_law.specs.Chains.{edge};
-ghost use Rattle.state_law.specs.State.{point_at};
-ghost use Rattle.front_chain.specs.Front.{FrontState, IsFrontState, line_at, number_above, does_meet, edges_of};
+ghost use Rattle.front_chain.specs.Front.{line_at, number_above, is_near, edges_of};
 ghost use Rattle.admission.specs.Triangles.{IsLineOnGrid};
-ghost use Rattle.admission.specs.Around.{drawn, numbers_of, ahead, IsThere, lines_near};
+ghost use Rattle.admission.specs.Around.{drawn, drawn_at, numbers_of, ahead, IsThere, lines_near, numbers_near};
 
 use crate::triangle::Line;
 use front_chain::Front;
-use grid_geom::{Bounds, Edge, Point, RatPoint};
+use grid_geom::{Bounds, Edge, RatPoint};
 use std::alloc::{AllocError as OutOfMemory, Global};
 use wind_law::crossing;
-
-/// Whether the box of a line from `a` to `b` meets the box `near`. Each test is made, so that
-/// nothing branches.
-fn meets(near: Bounds, a: Point, b: Point) -> bool
-    ensures { result ≡ does_meet near (edge a b) }
-{
-    let across = ((a.x <= near.hi.x) | (b.x <= near.hi.x))
-        & ((near.lo.x <= a.x) | (near.lo.x <= b.x));
-    let along = ((a.y <= near.hi.y) | (b.y <= near.hi.y))
-        & ((near.lo.y <= a.y) | (near.lo.y <= b.y));
-    across & along
-}
 
 /// The number of the least line above a number, where there is one.
 fn above(front: &Front, after: u64) -> Option<u64>
@@ -49,6 +35,7 @@ fn line_of(front: &Front, n: u64) -> Line
     ensures first { ahead front.now.lines (Some n) ≡
         numbers_of result ∷ ahead front.now.lines (number_above front.now.lines n) }
     ensures number { result.number ≡ n }
+    ensures at { result ≡ drawn_at front.now n }
     ensures drawn { result ≡ drawn front.now.points (numbers_of result) }
     ensures on_grid { IsLineOnGrid result }
 {
@@ -63,18 +50,41 @@ fn line_of(front: &Front, n: u64) -> Line
     }
 }
 
+/// The numbers of the lines near a box, as the front's walk meets them.
+fn numbers_met(alloc: Global, front: &Front, near: &Bounds) -> Result<Vec<u64>, OutOfMemory>
+    ensures { IfOk result (λ v. v.items ≡ filter (is_near front.now near.now) front.now.walk) }
+{
+    let _lines = front.lines();
+    let mut numbers = Vec::new(alloc);
+    let mut next = front.first_near(near);
+    while let Some(met) = next {
+        numbers.push(met.line)?;
+        next = front.next_near(near, &met);
+    }
+    Ok(numbers)
+}
+
+/// The numbers of the lines near a box, rising.
+fn numbers_near(alloc: Global, front: &Front, near: &Bounds) -> Result<Vec<u64>, OutOfMemory>
+    ensures value { IfOk result (λ v. v.items ≡ numbers_near near.now front.now) }
+    ensures there { IfOk result (λ v.
+        All (λ n. is_some (line_at front.now.lines n) ≡ true) v.items) }
+{
+    let _lines = front.lines();
+    let mut numbers = numbers_met(alloc, front, near)?;
+    numbers.sort_unstable();
+    Ok(numbers)
+}
+
 /// The lines of the front near a box, in order of making.
 pub fn lines_near(alloc: Global, front: &Front, near: &Bounds) -> Result<Vec<Line>, OutOfMemory>
     ensures { IfOk result (λ v. v.items ≡ lines_near near.now front.now.points front.now.lines) }
 {
-    let mut lines = Vec::new(alloc);
-    let mut next = first_of(front);
-    while let Some(n) = next {
-        let line = line_of(front, n);
-        if meets(*near, line.a, line.b) {
-            lines.push(line)?;
-        }
-        next = above(front, n);
+    let _lines = front.lines();
+    let numbers = numbers_near(alloc, front, near)?;
+    let mut lines = Vec::with_capacity(alloc, numbers.len())?;
+    for n in &numbers {
+        lines.push(line_of(front, *n))?;
     }
     Ok(lines)
 }

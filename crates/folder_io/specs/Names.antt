@@ -37,7 +37,8 @@ abbrev pub entry_bytes : String Global × Vec ℕ Global → List ℕ × List �
 entry_bytes entry = (string_bytes entry.0, entry.1.items)
 
 -- the entries of every other name
-abbrev pub without : List ℕ → List (String Global × Vec ℕ Global) → List (String Global × Vec ℕ Global)
+abbrev pub without : List ℕ → List (String Global × Vec ℕ Global)
+    → List (String Global × Vec ℕ Global)
 without name entries = filter (λ entry. not (pointwise nat_eq (string_bytes entry.0) name)) entries
 
 -- the files of two lists, each under the name at its place; of one name the first file
@@ -51,4 +52,5 @@ take_answer (Some bytes) limit = if nat_le (length bytes) limit then Ok bytes el
 
 -- the call gave this answer, or memory was refused
 abbrev pub Gives : Result (Vec ℕ Global) TakeFault → Result (List ℕ) TakeFault → Type 0
-Gives result answer = MatchResult result (λ v. answer ≡ Ok v.items) (λ fault. (fault ≡ Memory) ⊎ (answer ≡ Err fault))
+Gives result answer = MatchResult result (λ v. answer ≡ Ok v.items)
+    (λ fault. (fault ≡ Memory) ⊎ (answer ≡ Err fault))

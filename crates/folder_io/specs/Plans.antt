@@ -47,7 +47,12 @@ pub record Failures : Type 0 where
 
 -- how a folder in memory is told apart from another
 abbrev pub coded_Plan : Coded Plan
-coded_Plan = code_by (List ℕ × (ℕ × ℕ)) (coded× (coded_list coded_ℕ) (coded× coded_ℕ coded_ℕ)) (λ p. (p.fail, (p.calls, p.faults))) (λ p. record { fail = p.0; calls = p.1.0; faults = p.1.1 }) (λ _. refl)
+coded_Plan = code_by (List ℕ × (ℕ × ℕ)) (coded× (coded_list coded_ℕ) (coded× coded_ℕ coded_ℕ))
+    (λ p. (p.fail, (p.calls, p.faults))) (λ p. record { fail = p.0; calls = p.1.0; faults = p.1.1 })
+    (λ _. refl)
 
 abbrev pub coded_MemoryFolder : Coded MemoryFolder
-coded_MemoryFolder = code_by (Files × (Plan × List ℕ)) (coded× (finite.code (coded_list coded_ℕ) (coded_list coded_ℕ)) (coded× coded_Plan (coded_list coded_ℕ))) (λ f. (f.files, (f.plan, f.last))) (λ p. record { files = p.0; plan = p.1.0; last = p.1.1 }) (λ _. refl)
+coded_MemoryFolder = code_by (Files × (Plan × List ℕ))
+    (coded× (finite.code (coded_list coded_ℕ) (coded_list coded_ℕ))
+    (coded× coded_Plan (coded_list coded_ℕ))) (λ f. (f.files, (f.plan, f.last)))
+    (λ p. record { files = p.0; plan = p.1.0; last = p.1.1 }) (λ _. refl)

@@ -26,14 +26,19 @@ pub trait Folder {
     fn take(&mut self, alloc: Global, name: &str, limit: u64) -> Result<Vec<u8>, TakeFault>
         ensures held { (state self.new).held ≡ (state self.old).held }
         ensures short { IfOk result (λ v. length v.items ≤ limit) }
-        ensures bytes { IfOk result (λ v. Told (state self.old).held (λ files. Holds files name.now v.items)) }
+        ensures bytes { IfOk result
+            (λ v. Told (state self.old).held (λ files. Holds files name.now v.items)) }
 
-        ensures failed { IsErrOf result TakeFault.Failed → FailedFor (state self.old) (state self.new) name.now }
-        ensures too_long { IsErrOf result TakeFault.TooLong → Told (state self.old).held (IsLonger limit name.now) }
-        ensures missing { IsErrOf result TakeFault.Missing → Told (state self.old).held (IsMissing name.now) }
+        ensures failed { IsErrOf result TakeFault.Failed →
+            FailedFor (state self.old) (state self.new) name.now }
+        ensures too_long { IsErrOf result TakeFault.TooLong →
+            Told (state self.old).held (IsLonger limit name.now) }
+        ensures missing { IsErrOf result TakeFault.Missing →
+            Told (state self.old).held (IsMissing name.now) }
 
         ensures rises { (state self.old).faults ≤ (state self.new).faults }
-        ensures quiet { ¬ IsErrOf result TakeFault.Failed → IsQuiet (state self.old) (state self.new) };
+        ensures quiet { ¬ IsErrOf result TakeFault.Failed →
+            IsQuiet (state self.old) (state self.new) };
 
     /// Puts the bytes under the name, in place of what is there.
     ///
@@ -44,10 +49,13 @@ pub trait Folder {
     fn put(&mut self, alloc: Global, name: &str, bytes: &[u8]) -> Result<(), PutFault>
         ensures put { OnOk result (ToldBoth (state self.old).held (state self.new).held
             (λ old new. new ≡ finite.insert old name.now bytes.now)) }
-        ensures others { OnErr result (ToldBoth (state self.old).held (state self.new).held (SameBut name.now)) }
+        ensures others { OnErr result
+            (ToldBoth (state self.old).held (state self.new).held (SameBut name.now)) }
 
-        ensures failed { IsErrOf result PutFault.Failed → FailedFor (state self.old) (state self.new) name.now }
+        ensures failed { IsErrOf result PutFault.Failed →
+            FailedFor (state self.old) (state self.new) name.now }
 
         ensures rises { (state self.old).faults ≤ (state self.new).faults }
-        ensures quiet { ¬ IsErrOf result PutFault.Failed → IsQuiet (state self.old) (state self.new) };
+        ensures quiet { ¬ IsErrOf result PutFault.Failed →
+            IsQuiet (state self.old) (state self.new) };
 }

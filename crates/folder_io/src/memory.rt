@@ -113,7 +113,8 @@ impl Folder for FolderMem {
             then Err TakeFault.Failed
             else take_answer (held_at self.old.files name.now) limit) }
         ensures files { self.new.files ≡ self.old.files }
-        ensures counted { ¬ IsErrOf result TakeFault.Memory → self.new.plan ≡ after_call self.old.plan }
+        ensures counted { ¬ IsErrOf result TakeFault.Memory →
+            self.new.plan ≡ after_call self.old.plan }
         ensures memory { IsErrOf result TakeFault.Memory → self.new ≡ self.old }
         ensures unplanned { self.old.plan.fail ≡ [] → ¬ IsErrOf result TakeFault.Failed }
 
@@ -143,12 +144,14 @@ impl Folder for FolderMem {
             ⊎ (result ≡ (if fails_next self.old.plan then Err PutFault.Failed else Ok tt)) }
         ensures absent { IsErrOf result PutFault.Failed
             → self.new.files ≡ finite.remove self.old.files name.now }
-        ensures counted { ¬ IsErrOf result PutFault.Memory → self.new.plan ≡ after_call self.old.plan }
+        ensures counted { ¬ IsErrOf result PutFault.Memory →
+            self.new.plan ≡ after_call self.old.plan }
         ensures memory { IsErrOf result PutFault.Memory → self.new ≡ self.old }
         ensures unplanned { self.old.plan.fail ≡ [] → ¬ IsErrOf result PutFault.Failed }
 
         // What every folder promises.
-        ensures put { OnOk result (self.new.files ≡ finite.insert self.old.files name.now bytes.now) }
+        ensures put { OnOk result
+            (self.new.files ≡ finite.insert self.old.files name.now bytes.now) }
         ensures others { OnErr result (SameBut name.now self.old.files self.new.files) }
         ensures failed { IsErrOf result PutFault.Failed
             → Rose self.old.plan.faults self.new.plan.faults × (self.new.last ≡ name.now) }
@@ -223,15 +226,18 @@ impl Sink for SinkMem {
         ensures exact { IsErrOf result SinkFault.Memory
             ⊎ (result ≡ (if fails_next self.old.plan then Err SinkFault.Failed else Ok tt)) }
         ensures refused { OnErr result (self.new.written ≡ self.old.written) }
-        ensures counted { ¬ IsErrOf result SinkFault.Memory → self.new.plan ≡ after_call self.old.plan }
+        ensures counted { ¬ IsErrOf result SinkFault.Memory →
+            self.new.plan ≡ after_call self.old.plan }
         ensures memory { IsErrOf result SinkFault.Memory → self.new ≡ self.old }
         ensures unplanned { self.old.plan.fail ≡ [] → ¬ IsErrOf result SinkFault.Failed }
 
         // What every sink promises.
         ensures all { OnOk result (self.new.written ≡ self.old.written ++ bytes.now) }
-        ensures failed { IsErrOf result SinkFault.Failed → Rose self.old.plan.faults self.new.plan.faults }
+        ensures failed { IsErrOf result SinkFault.Failed →
+            Rose self.old.plan.faults self.new.plan.faults }
         ensures rises { self.old.plan.faults ≤ self.new.plan.faults }
-        ensures quiet { ¬ IsErrOf result SinkFault.Failed → self.new.plan.faults ≡ self.old.plan.faults }
+        ensures quiet { ¬ IsErrOf result SinkFault.Failed →
+            self.new.plan.faults ≡ self.old.plan.faults }
     {
         if self.plan.fails_next() {
             self.plan.count_failed();

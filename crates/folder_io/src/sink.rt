@@ -27,7 +27,8 @@ pub trait Sink {
         ensures none { IsErrOf result SinkFault.Memory
             → (state self.new).written ≡ (state self.old).written }
 
-        ensures failed { IsErrOf result SinkFault.Failed → Rose (state self.old).faults (state self.new).faults }
+        ensures failed { IsErrOf result SinkFault.Failed →
+            Rose (state self.old).faults (state self.new).faults }
 
         ensures rises { (state self.old).faults ≤ (state self.new).faults }
         ensures quiet { ¬ IsErrOf result SinkFault.Failed

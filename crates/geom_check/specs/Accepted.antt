@@ -60,7 +60,8 @@ IsZeroOrOne n = (n ≡ pos 0) ⊎ (n ≡ pos 1)
 
 -- at every place off all segments a domain has the winding number 0 or 1
 abbrev pub WindsAtMostOnce : List Point → List Segment → ℕ → Type 0
-WindsAtMostOnce points segments domain = (q : RatPoint) → IsRational q → IsOff q (edges_of points segments) → IsZeroOrOne (wind q (boundary points domain segments))
+WindsAtMostOnce points segments domain = (q : RatPoint) → IsRational q
+    → IsOff q (edges_of points segments) → IsZeroOrOne (wind q (boundary points domain segments))
 
 -- two domains have the winding number 1 at a place
 pub record DoOverlap (points : List Point) (segments : List Segment) (q : RatPoint) : Type 0 where
@@ -80,7 +81,8 @@ pub record IsPlanar (points : List Point) (segments : List Segment) : Type 0 whe
   pub apart : AreApart (edges_of points segments)
   pub closed : AreClosed points segments
   pub winding : (domain : ℕ) → 0 < domain → WindsAtMostOnce points segments domain
-  pub separate : (q : RatPoint) → IsRational q → IsOff q (edges_of points segments) → ¬ DoOverlap points segments q
+  pub separate : (q : RatPoint) → IsRational q → IsOff q (edges_of points segments)
+      → ¬ DoOverlap points segments q
 
 -- a segment with a domain on some side
 abbrev pub NamesDomain : SegmentRow → Type 0
@@ -91,4 +93,5 @@ NamesDomain row = (0 < row.left) ⊎ (0 < row.right)
 pub record IsAccepted (raw : RawGeometry) : Type 0 where
   pub domain : Any NamesDomain raw.segments
   pub fits : All (FitsRow COARSEST) raw.points
-  pub planar : (shift : ℤ) → IsShift shift raw.points → IsPlanar (points_of shift raw.points) (segments_of shift raw)
+  pub planar : (shift : ℤ) → IsShift shift raw.points
+      → IsPlanar (points_of shift raw.points) (segments_of shift raw)

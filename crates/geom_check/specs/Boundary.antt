@@ -55,4 +55,5 @@ with_edge false e es = es
 abbrev pub boundary : List Point → ℕ → List Segment → List Edge
 boundary points domain [] = []
 boundary points domain (s ∷ ss) =
-    with_edge (s.left == domain) (edge_of points s) (with_edge (s.right == domain) (back (edge_of points s)) (boundary points domain ss))
+    with_edge (s.left == domain) (edge_of points s)
+    (with_edge (s.right == domain) (back (edge_of points s)) (boundary points domain ss))

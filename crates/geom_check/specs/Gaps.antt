@@ -57,7 +57,9 @@ pub record IsToRight (low high : ℤ) (rs : List Riser) (left right : Passing) :
 -- the nearest to another of the first risers that pass the strip to its right, or none
 pub record IsGapEnd (low high : ℤ) (rs : List Riser) (count : ℕ) (left : Passing) (end : Option Passing) : Type 0 where
   pub to_right : IfSome end (IsToRight low high rs left)
-  pub nearest : (i : ℕ) (d : Riser) (key : ℕ) → i < count → IsPassing low high (slice_index_or rs i d) → IsKey (low +ℤ high) (slice_index_or rs i d) key → left.key < key →
+  pub nearest : (i : ℕ) (d : Riser) (key : ℕ) → i < count
+      → IsPassing low high (slice_index_or rs i d) → IsKey (low +ℤ high) (slice_index_or rs i d) key
+      → left.key < key →
       MatchOption end ⊥ (λ right. right.key ≤ key)
 
 -- the middle between two risers at the height y/2

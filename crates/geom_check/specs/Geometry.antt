@@ -34,7 +34,13 @@ pub record PlanarMap : Type 0 where
 -- the map of these parts
 abbrev pub map_of : ℤ → List Point → List Segment → List Source → List Domain → PlanarMap
 map_of shift points segments flagged domains =
-    record { shift = shift; points = points; segments = segments; flagged = flagged; domains = domains }
+    record {
+      shift = shift;
+      points = points;
+      segments = segments;
+      flagged = flagged;
+      domains = domains;
+    }
 
 -- a source in front, where the point has a size
 abbrev pub with_source : Point → Option ℕ → List Source → List Source
@@ -44,12 +50,14 @@ with_source at (Some h) ss = record { at = at; h = h } ∷ ss
 -- the points with an effective size, in the order of their rows
 abbrev pub sources_of : ℤ → List PointRow → List Source
 sources_of shift [] = []
-sources_of shift (row ∷ rows) = with_source (place_of shift row) (size_at shift row.maxh) (sources_of shift rows)
+sources_of shift (row ∷ rows) =
+    with_source (place_of shift row) (size_at shift row.maxh) (sources_of shift rows)
 
 -- the size that the last row of a domain gives, and `before` where no row is of the domain
 abbrev pub size_from : ℤ → ℕ → Option ℕ → List MaterialRow → Option ℕ
 size_from shift domain before [] = before
-size_from shift domain before (row ∷ rows) = size_from shift domain (if row.domain == domain then size_at shift row.maxh else before) rows
+size_from shift domain before (row ∷ rows) =
+    size_from shift domain (if row.domain == domain then size_at shift row.maxh else before) rows
 
 -- the greatest size of a domain
 abbrev pub domain_size : ℤ → List MaterialRow → ℕ → Option ℕ

@@ -84,7 +84,8 @@ segment_of shift points number row = record {
 -- the segments from this number on
 abbrev pub segments_from : ℤ → List PointRow → ℕ → List SegmentRow → List Segment
 segments_from shift points number [] = []
-segments_from shift points number (row ∷ rows) = segment_of shift points number row ∷ segments_from shift points (number + 1) rows
+segments_from shift points number (row ∷ rows) =
+    segment_of shift points number row ∷ segments_from shift points (number + 1) rows
 
 -- the segments of the file, in the order of their rows
 abbrev pub segments_of : ℤ → RawGeometry → List Segment

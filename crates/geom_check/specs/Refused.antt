@@ -45,7 +45,8 @@ pub record IsFirstPartner (P : ℕ → ℕ → Type 0) (i j : ℕ) : Type 0 wher
 
 -- as many edges of a domain's boundary leave a point as arrive
 abbrev pub IsBalancedAt : List Point → List Segment → ℕ → Point → Type 0
-IsBalancedAt points segments domain p = leaving p (boundary points domain segments) ≡ arriving p (boundary points domain segments)
+IsBalancedAt points segments domain p =
+    leaving p (boundary points domain segments) ≡ arriving p (boundary points domain segments)
 
 -- the least domain whose boundary is open, and the first row at which it is
 pub record IsLeastOpen (points : List Point) (segments : List Segment) (point domain : ℕ) : Type 0 where
@@ -56,7 +57,8 @@ pub record IsLeastOpen (points : List Point) (segments : List Segment) (point do
 -- the least domain with a winding number other than 0 and 1, and where it has one
 pub record IsLeastSide (points : List Point) (segments : List Segment) (domain : ℕ) (at : RatPoint) : Type 0 where
   pub positive : 0 < domain
-  pub witness : IsWitness (λ q. ¬ IsZeroOrOne (wind q (boundary points domain segments))) (edges_of points segments) at
+  pub witness : IsWitness (λ q. ¬ IsZeroOrOne (wind q (boundary points domain segments)))
+      (edges_of points segments) at
   pub least : (d : ℕ) → 0 < d → d < domain → WindsAtMostOnce points segments d
 
 -- ---- what holds where the checks before a fault have passed, and P: each asks one fact more than the one before it
@@ -101,14 +103,16 @@ IsFault (OpenAt point domain) points segments =
 IsFault (Side domain at) points segments =
     PastBoundaries points segments (IsLeastSide points segments domain at)
 IsFault (Overlap at) points segments =
-    PastWindings points segments (IsWitness (DoOverlap points segments) (edges_of points segments) at)
+    PastWindings points segments
+    (IsWitness (DoOverlap points segments) (edges_of points segments) at)
 IsFault Memory points segments = ⊥
 
 -- a fault on the grid, at the file's shift
 pub record IsPlacedFault (raw : RawGeometry) (refusal : GeomRefusal) : Type 0 where
   pub domain : Any NamesDomain raw.segments
   pub fits : All (FitsRow COARSEST) raw.points
-  pub fault : (shift : ℤ) → IsShift shift raw.points → IsFault refusal (points_of shift raw.points) (segments_of shift raw)
+  pub fault : (shift : ℤ) → IsShift shift raw.points
+      → IsFault refusal (points_of shift raw.points) (segments_of shift raw)
 
 -- `place` refuses for a coordinate that doesn't fit, or for want of memory
 abbrev pub IsPlaceRefusal : RawGeometry → GeomRefusal → Type 0
@@ -119,14 +123,16 @@ IsPlaceRefusal raw _ = ⊥
 -- the first fault of a file
 abbrev pub IsRefusal : RawGeometry → GeomRefusal → Type 0
 IsRefusal raw NoDomain = ¬ (Any NamesDomain raw.segments)
-IsRefusal raw (TooLarge point) = Any NamesDomain raw.segments × IsFirstFailing (FitsRow COARSEST) raw.points point
+IsRefusal raw (TooLarge point) = Any NamesDomain raw.segments
+    × IsFirstFailing (FitsRow COARSEST) raw.points point
 IsRefusal raw Memory = Unit {0}
 IsRefusal raw refusal = IsPlacedFault raw refusal
 
 -- the first fault of winding numbers
 abbrev pub IsWindingFault : List Point → List Segment → GeomRefusal → Type 0
 IsWindingFault points segments (Side domain at) = IsLeastSide points segments domain at
-IsWindingFault points segments (Overlap at) = ((d : ℕ) → 0 < d → WindsAtMostOnce points segments d) × IsWitness (DoOverlap points segments) (edges_of points segments) at
+IsWindingFault points segments (Overlap at) = ((d : ℕ) → 0 < d → WindsAtMostOnce points segments d)
+    × IsWitness (DoOverlap points segments) (edges_of points segments) at
 IsWindingFault points segments Memory = Unit {0}
 IsWindingFault points segments _ = ⊥
 

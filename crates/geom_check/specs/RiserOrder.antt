@@ -89,7 +89,8 @@ pub record IsOrder (low high : ℤ) (risers : List Riser) (items : List Passing)
   pub rising : IsNonDecreasingBy (λ p. p.key) items
   pub free : AllPairs (λ p s. IsFree p.riser s.riser) items
   pub among : All (λ p. Contains risers p.riser) items
-  pub same : (f : Riser → ℕ) → sum_by (λ p. f p.riser) items ≡ sum_by f (filter (passes low high) risers)
+  pub same : (f : Riser → ℕ) → sum_by (λ p. f p.riser) items
+      ≡ sum_by f (filter (passes low high) risers)
 
 -- a riser that has a chosen domain to its west, to its east
 abbrev pub west_of : (ℕ → Bool) → Passing → ℕ
@@ -118,7 +119,8 @@ far y = record { x = neg_ℤ (pos 2 *ℤ (GRID +ℤ pos 1)); y = y; k = pos 2 }
 
 -- the chosen domains have a winding number of 0 or 1 everywhere in the strip
 abbrev pub IsSound : ℤ → ℤ → (ℕ → Bool) → List Riser → Type 0
-IsSound low high chosen rs = (q : RatPoint) → IsInStrip low high q → IsOffRisers q rs → IsZeroOrOne (winding_of chosen q rs)
+IsSound low high chosen rs = (q : RatPoint) → IsInStrip low high q → IsOffRisers q rs
+    → IsZeroOrOne (winding_of chosen q rs)
 
 -- the first of the risers that pass a strip on whose right the winding number of the chosen domains is neither 0 nor 1
 pub record IsStripFault (low high : ℤ) (chosen : ℕ → Bool) (rs : List Riser) (left : Passing) : Type 0 where
@@ -149,7 +151,8 @@ is_border chosen r = not (one_if (chosen r.west) == one_if (chosen r.east))
 
 -- the chosen domains have a winding number of 0 or 1 at every place off the risers
 abbrev pub IsSoundAll : (ℕ → Bool) → List Riser → Type 0
-IsSoundAll chosen rs = (q : RatPoint) → IsRational q → IsOffRisers q rs → IsZeroOrOne (winding_of chosen q rs)
+IsSoundAll chosen rs = (q : RatPoint) → IsRational q → IsOffRisers q rs
+    → IsZeroOrOne (winding_of chosen q rs)
 
 -- the lowest strip with a fault, and the first riser of it with one on its right
 pub record IsLowestFault (levels : List ℕ) (chosen : ℕ → Bool) (rs : List Riser) (strip : Strip) (left : Passing) : Type 0 where
@@ -159,11 +162,14 @@ pub record IsLowestFault (levels : List ℕ) (chosen : ℕ → Bool) (rs : List 
   pub low_is : strip.low ≡ height_of levels (place - 1)
   pub high_is : strip.high ≡ height_of levels place
   pub fault : IsStripFault strip.low strip.high chosen rs left
-  pub below : (k : ℕ) → 1 ≤ k → k < place → IsSound (height_of levels (k - 1)) (height_of levels k) chosen rs
+  pub below : (k : ℕ) → 1 ≤ k → k < place
+      → IsSound (height_of levels (k - 1)) (height_of levels k) chosen rs
 
 -- the levels of both ends of each of the first edges, and of nothing else
 pub record IsLevelsOf (edges : List Edge) (count : ℕ) (levels : List ℕ) : Type 0 where
-  pub starts : (k : ℕ) (d : Edge) (n : ℕ) → k < count → pos n ≡ (slice_index_or edges k d).a.y +ℤ GRID → Contains levels n
-  pub ends : (k : ℕ) (d : Edge) (n : ℕ) → k < count → pos n ≡ (slice_index_or edges k d).b.y +ℤ GRID → Contains levels n
+  pub starts : (k : ℕ) (d : Edge) (n : ℕ) → k < count
+      → pos n ≡ (slice_index_or edges k d).a.y +ℤ GRID → Contains levels n
+  pub ends : (k : ℕ) (d : Edge) (n : ℕ) → k < count → pos n ≡ (slice_index_or edges k d).b.y +ℤ GRID
+      → Contains levels n
   pub heights : All (λ n. IsHeight edges (pos n -ℤ GRID)) levels
   pub small : All (λ n. n ≤ WIDTH) levels

@@ -23,17 +23,28 @@ with_riser false r rs = rs
 
 -- a segment from its first point upwards, and from its last
 abbrev pub upwards : List Point → Segment → Riser
-upwards points s = record { a = point_at points s.p; b = point_at points s.q; west = s.left; east = s.right }
+upwards points s = record {
+  a = point_at points s.p;
+  b = point_at points s.q;
+  west = s.left;
+  east = s.right;
+}
 
 abbrev pub downwards : List Point → Segment → Riser
-downwards points s = record { a = point_at points s.q; b = point_at points s.p; west = s.right; east = s.left }
+downwards points s = record {
+  a = point_at points s.q;
+  b = point_at points s.p;
+  west = s.right;
+  east = s.left;
+}
 
 -- the segments that aren't level, turned upwards
 abbrev pub risers_of : List Point → List Segment → List Riser
 risers_of points [] = []
 risers_of points (s ∷ ss) =
     with_riser (lt_z (point_at points s.p).y (point_at points s.q).y) (upwards points s)
-    (with_riser (lt_z (point_at points s.q).y (point_at points s.p).y) (downwards points s) (risers_of points ss))
+    (with_riser (lt_z (point_at points s.q).y (point_at points s.p).y) (downwards points s)
+    (risers_of points ss))
 
 -- q is to the left of the riser's line
 abbrev pub is_left : RatPoint → Riser → Bool

@@ -24,7 +24,8 @@ nearest n d = (2 * n + d) / (2 * d)
 
 -- |v| * 10 ^ shift, rounded half away from zero
 abbrev pub magnitude_at : ℤ → Dec → ℕ
-magnitude_at shift v = nearest (unsigned_abs v.digits * tens (v.scale +ℤ shift)) (tens (neg_ℤ (v.scale +ℤ shift)))
+magnitude_at shift v = nearest (unsigned_abs v.digits * tens (v.scale +ℤ shift))
+    (tens (neg_ℤ (v.scale +ℤ shift)))
 
 -- at most 2 ^ 14 units
 abbrev pub FitsAt : ℤ → Dec → Type 0
@@ -41,7 +42,8 @@ grid_at shift v = signed_as v.digits (64 * magnitude_at shift v)
 
 -- 64 * |v| * 10 ^ shift, rounded downwards, at least 1 and at most 2 ^ 21
 abbrev pub length_at : ℤ → Dec → ℕ
-length_at shift v = max 1 (min LONGEST (64 * unsigned_abs v.digits * tens (v.scale +ℤ shift) / tens (neg_ℤ (v.scale +ℤ shift))))
+length_at shift v = max 1 (min LONGEST
+    (64 * unsigned_abs v.digits * tens (v.scale +ℤ shift) / tens (neg_ℤ (v.scale +ℤ shift))))
 
 -- a greatest size in grid steps: one of zero or below has no effect
 abbrev pub size_of_digits : ℤ → ℕ → Option ℕ

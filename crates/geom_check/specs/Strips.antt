@@ -47,7 +47,8 @@ pub record IsGap (edges : List Edge) (low high : ℤ) (q r : RatPoint) : Type 0 
   pub first : Any (λ e. IsCrossing low high e q) edges
   pub second : Any (λ e. IsCrossing low high e r) edges
   pub ordered : IsLeftOf q r
-  pub successive : (m : RatPoint) → Any (λ e. IsCrossing low high e m) edges → IsLeftOf q m → IsLeftOf m r → ⊥
+  pub successive : (m : RatPoint) → Any (λ e. IsCrossing low high e m) edges → IsLeftOf q m
+      → IsLeftOf m r → ⊥
 
 -- m is in the middle between q and r
 abbrev pub IsBetween : RatPoint → RatPoint → RatPoint → Type 0

@@ -184,11 +184,14 @@ fn strip_fault(
     requires risers { All IsRiserOnGrid risers.now }
     requires free { AllPairs IsFree risers.now }
     requires clear { All (IsClear strip.now.low strip.now.high) risers.now }
-    requires balanced { winding_of (is_chosen chosen) (far (strip.now.low +ℤ strip.now.high)) risers.now ≡ pos 0 }
+    requires balanced { winding_of (is_chosen chosen)
+        (far (strip.now.low +ℤ strip.now.high)) risers.now ≡ pos 0 }
     ensures found { IfOk result
-        (λ found. IfSome found (IsStripFault strip.now.low strip.now.high (is_chosen chosen) risers.now)) }
+        (λ found. IfSome found (IsStripFault strip.now.low strip.now.high
+        (is_chosen chosen) risers.now)) }
     ensures none { IfOk result
-        (λ found. IfNone found (IsSound strip.now.low strip.now.high (is_chosen chosen) risers.now)) }
+        (λ found. IfNone found (IsSound strip.now.low strip.now.high
+        (is_chosen chosen) risers.now)) }
 {
     let order = passing(alloc, risers, strip)?;
     match faulty(&order, chosen) {

@@ -39,7 +39,8 @@ fn first_side(
         winding_of (is_chosen (Some d)) (far y) risers.now ≡ pos 0 }
     ensures positive { IfOk result (λ found. IfSome found (λ side. 0 < side.0)) }
     ensures found { IfOk result (λ found. IfSome found (λ side. IsWitness
-        (λ q. ¬ IsZeroOrOne (winding_of (is_chosen (Some side.0)) q risers.now)) edges.now side.1)) }
+        (λ q. ¬ IsZeroOrOne (winding_of
+        (is_chosen (Some side.0)) q risers.now)) edges.now side.1)) }
     ensures least { IfOk result (λ found. IfSome found (λ side. (d : ℕ) → 0 < d → d < side.0 →
         IsSoundAll (is_chosen (Some d)) risers.now)) }
     ensures none { IfOk result (λ found. IfNone found ((d : ℕ) → 0 < d → d ≤ MOST_DOMAINS →

@@ -29,7 +29,8 @@ after corners i = (i + 1) % length corners
 -- each corner that is not an end of the side from the corner at i is strictly left of it
 abbrev pub IsLeftOfRest : List Point → ℕ → Type 0
 IsLeftOfRest corners i = (j : ℕ) → j < length corners → j ≢ i → j ≢ after corners i →
-    pos 0 <ℤ orient (corner_at corners i) (corner_at corners (after corners i)) (corner_at corners j)
+    pos 0 <ℤ orient (corner_at corners i) (corner_at corners (after corners i))
+    (corner_at corners j)
 
 -- at least three corners, and each that is not an end of a side is strictly left of it
 pub record IsStrictlyConvex (corners : List Point) : Type 0 where
@@ -42,7 +43,8 @@ pub record IsInPolygon (q : RatPoint) (corners : List Point) : Type 0 where
 
 -- a-b is apart from the open polygon: both ends are on the closed outer side of some side, or all corners are on one closed side of the line a-b
 pub data IsApart (a b : Point) (corners : List Point) : Type 0 where
-  outside_a_side : Any (λ e. (orient e.a e.b a ≤ℤ pos 0) × (orient e.a e.b b ≤ℤ pos 0)) (sides corners) → IsApart a b corners
+  outside_a_side : Any (λ e. (orient e.a e.b a ≤ℤ pos 0) × (orient e.a e.b b ≤ℤ pos 0))
+      (sides corners) → IsApart a b corners
   all_left : All (λ c. pos 0 ≤ℤ orient a b c) corners → IsApart a b corners
   all_right : All (λ c. orient a b c ≤ℤ pos 0) corners → IsApart a b corners
 

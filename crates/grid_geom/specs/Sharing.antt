@@ -28,4 +28,5 @@ IsEnd e a b = (e ≡ a) ⊎ (e ≡ b)
 -- the segments share nothing, or one point, and that is an end of both
 pub data ShareAtMostAnEnd (a b c d : Point) : Type 0 where
   nothing : ((q : RatPoint) → ¬ IsShared q a b c d) → ShareAtMostAnEnd a b c d
-  one_end : (e : Point) → IsEnd e a b → IsEnd e c d → ((q : RatPoint) → IsShared q a b c d → IsAt q e) → ShareAtMostAnEnd a b c d
+  one_end : (e : Point) → IsEnd e a b → IsEnd e c d
+      → ((q : RatPoint) → IsShared q a b c d → IsAt q e) → ShareAtMostAnEnd a b c d

@@ -22,8 +22,10 @@ pub fn law_apart()
 /// Segments with different ends that don't tangle share nothing, or one point, which is an end of both.
 /// Those that tangle share more.
 pub fn law_tangle()
-    ensures untangled { (a b c d : Point) → a ≢ b → c ≢ d → ¬ DoTangle a b c d → ShareAtMostAnEnd a b c d }
-    ensures tangled { (a b c d : Point) → a ≢ b → c ≢ d → DoTangle a b c d → ¬ ShareAtMostAnEnd a b c d }
+    ensures untangled { (a b c d : Point) → a ≢ b → c ≢ d → ¬ DoTangle a b c d →
+        ShareAtMostAnEnd a b c d }
+    ensures tangled { (a b c d : Point) → a ≢ b → c ≢ d → DoTangle a b c d →
+        ¬ ShareAtMostAnEnd a b c d }
 {}
 
 /// Boxes meet where some rational point is in both. The box of two points is that from the least to the

@@ -60,7 +60,8 @@ abbrev pub segments_part : List SegmentText → Option (List MaterialText) → L
 segments_part segments materials = flat_map segment_words segments ++ materials_part materials
 
 abbrev pub points_part : List PointText → List SegmentText → Option (List MaterialText) → List Word
-points_part points segments materials = flat_map point_words points ++ (segments_word ∷ segments_part segments materials)
+points_part points segments materials =
+    flat_map point_words points ++ (segments_word ∷ segments_part segments materials)
 
 -- the words of a file
 abbrev pub file_words : FileText → List Word

@@ -37,18 +37,28 @@ plain_parts sign digits places = record {
 }
 
 abbrev pub power_parts : Sign → List ℕ → ℤ → DecimalParts
-power_parts sign digits scale = record { sign = sign; front = digits; fraction = None; power = Some (record { letter = 101; sign = sign_of scale; digits = decimal (unsigned_abs scale) }) }
+power_parts sign digits scale = record {
+  sign = sign;
+  front = digits;
+  fraction = None;
+  power = Some
+      (record { letter = 101; sign = sign_of scale; digits = decimal (unsigned_abs scale) });
+}
 
 -- their bytes
 abbrev pub plain_text : List ℕ → ℕ → List ℕ
-plain_text digits places = take (length digits - places) digits ++ (fraction_text (if nat_le places 0 then None else Some (drop (length digits - places) digits)) ++ [])
+plain_text digits places = take (length digits - places) digits ++ (fraction_text
+    (if nat_le places 0 then None else Some (drop (length digits - places) digits)) ++ [])
 
 abbrev pub is_plain : ℤ → Bool
 is_plain scale = int_le (negsuc 19) scale && int_le scale (pos 0)
 
 -- the parts in which a decimal is printed
 abbrev pub normal_parts : Dec → DecimalParts
-normal_parts d = if is_plain d.scale then plain_parts (sign_of d.digits) (filled (unsigned_abs d.scale) (decimal (unsigned_abs d.digits))) (unsigned_abs d.scale) else power_parts (sign_of d.digits) (decimal (unsigned_abs d.digits)) d.scale
+normal_parts d = if is_plain d.scale
+    then plain_parts (sign_of d.digits)
+    (filled (unsigned_abs d.scale) (decimal (unsigned_abs d.digits))) (unsigned_abs d.scale)
+    else power_parts (sign_of d.digits) (decimal (unsigned_abs d.digits)) d.scale
 
 unfoldable pub decimal_text : Dec → Word
 decimal_text d = spelling (normal_parts d)
@@ -73,7 +83,8 @@ abbrev pub point_line : PointRow → List Word
 point_line row = decimal row.number ∷ decimal_text row.x ∷ decimal_text row.y ∷ size_flags row.maxh
 
 abbrev pub segment_line : SegmentRow → List Word
-segment_line row = decimal row.left ∷ decimal row.right ∷ two_word ∷ decimal row.p ∷ decimal row.q ∷ (number_flags row.bc ++ size_flags row.maxh)
+segment_line row = decimal row.left ∷ decimal row.right ∷ two_word ∷ decimal row.p ∷ decimal row.q
+    ∷ (number_flags row.bc ++ size_flags row.maxh)
 
 abbrev pub material_line : MaterialRow → List Word
 material_line row = decimal row.domain ∷ row.name ∷ size_flags row.maxh
@@ -86,7 +97,9 @@ abbrev pub head_lines : Dec → List (List Word)
 head_lines number = (head_word ∷ []) ∷ (decimal_text number ∷ []) ∷ (points_word ∷ []) ∷ []
 
 abbrev pub lines_of : RawGeometry → List (List Word)
-lines_of raw = head_lines raw.number ++ (map point_line raw.points ++ ((segments_word ∷ []) ∷ (map segment_line raw.segments ++ material_lines raw.materials)))
+lines_of raw = head_lines raw.number
+    ++ (map point_line raw.points
+    ++ ((segments_word ∷ []) ∷ (map segment_line raw.segments ++ material_lines raw.materials)))
 
 -- the text of the lines
 abbrev pub normal_text : RawGeometry → List ℕ

@@ -74,8 +74,10 @@ pub record Passes (words : List Word) (at : ℕ) (word : Word) : Type 0 where
 -- as many points as there may be stand before the word: with the word `segments` in its place these were the points of the text;
 -- or as many segments: without the word these were the segments of the text
 pub data IsFull (what : ℕ) (before : List Word) : Type 0 where
-  Points : what ≡ 1 → (raw : RawGeometry) → Derives (before ++ segments_word ∷ []) raw → length raw.points ≡ 4096 → IsFull what before
-  Segments : what ≡ 2 → (raw : RawGeometry) → Derives before raw → length raw.segments ≡ 4096 → IsFull what before
+  Points : what ≡ 1 → (raw : RawGeometry) → Derives (before ++ segments_word ∷ []) raw
+      → length raw.points ≡ 4096 → IsFull what before
+  Segments : what ≡ 2 → (raw : RawGeometry) → Derives before raw → length raw.segments ≡ 4096
+      → IsFull what before
 
 -- the word is the number of a point that stands before it, and there may be one more: with the word `segments` in its place
 -- these were the points of the text
@@ -134,10 +136,15 @@ pub record IsCurved (words : List Word) (k : ℕ) : Type 0 where
 -- A word that begins a row past a limit is refused by TooMany, and else one whose number has stood before by NumberTwice.
 -- A derived text within the limits is refused by UnknownPoint, if it is.
 abbrev pub Refuses : List Word → In2dRefusal → Type 0
-Refuses words (Syntax at) = ((word : Word) × (s : Stops IsAny words at word) × (StandsForNumber s.before word → ⊥)) ⊎ Misses words at
-Refuses words (Number at) = (word : Word) × (s : Stops IsAny words at word) × StandsForNumber s.before word × (word ≡ three_word → ⊥)
+Refuses words (Syntax at) = ((word : Word) × (s : Stops IsAny words at word)
+    × (StandsForNumber s.before word → ⊥)) ⊎ Misses words at
+Refuses words (Number at) = (word : Word) × (s : Stops IsAny words at word)
+    × StandsForNumber s.before word × (word ≡ three_word → ⊥)
 Refuses words (Curved segment) = IsCurved words segment
-Refuses words (TooMany what) = (at : ℕ) × (word : Word) × (p : Passes words at word) × IsFull what p.stops.before
-Refuses words (NumberTwice at) = (word : Word) × (p : Passes words at word) × StoodBefore p.stops.before word
-Refuses words (UnknownPoint segment) = (raw : RawGeometry) × Derives words raw × Within raw × IsUnknown raw segment
+Refuses words (TooMany what) = (at : ℕ) × (word : Word) × (p : Passes words at word)
+    × IsFull what p.stops.before
+Refuses words (NumberTwice at) = (word : Word) × (p : Passes words at word)
+    × StoodBefore p.stops.before word
+Refuses words (UnknownPoint segment) = (raw : RawGeometry) × Derives words raw × Within raw
+    × IsUnknown raw segment
 Refuses words Memory = Unit {0}

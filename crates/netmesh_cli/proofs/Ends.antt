@@ -161,5 +161,5 @@ accepted_stuck raw input is =
     let some = is.accepted.domain in
     let of_file = named_at g.shift raw.points 1 raw.segments some.0 some.1 some.2 some.3 some.4 in
     let found : IsNamed g.segments = subst IsNamed (sym is.segments) of_file in
-    let o = run_options input.options in
+    let o = run_options g.shift input.options in
     ended _ _ (none_stopped g o (domain_numbers g.segments)) (some_stuck g o (domain_numbers g.segments) found.domain (among_numbers g.segments found.domain found.positive found.named) (some_edge g o found.domain found.named))

@@ -11,11 +11,11 @@ use Rattle.netmesh_cli.specs.declared.outcome.Outcome.TheVariants.{Shown}
 use Rattle.netmesh_cli.specs.declared.outcome.Refusal.{Refusal}
 use Rattle.netmesh_cli.specs.declared.outcome.Refusal.TheVariants.{Words, In2d, Geometry, Rules, Folder, Out, Memory, NotYet}
 use Rattle.netmesh_cli.specs.Commands.{MeshTask}
-use Rattle.netmesh_cli.specs.Words.{with_grading}
+use Rattle.netmesh_cli.specs.Words.{sizing}
 use Rattle.netmesh_cli.specs.Accepted.{AreRules}
 use Rattle.netmesh_cli.specs.Causes.{HoldsWithin, IsMemory}
 use Rattle.netmesh_cli.specs.Taking.{HoldsAccepted, TakeRefused, geometry_at, ruleless_file_at}
-use Rattle.netmesh_cli.specs.Run.{graded_input, run_of, log_of, mesh_of, line_of, outcome_of, IsCovered}
+use Rattle.netmesh_cli.specs.Run.{sized_input, run_of, log_of, mesh_of, line_of, outcome_of, IsCovered}
 use Rattle.netmesh_cli.specs.Shown.{shown_text}
 use Rattle.netmesh_cli.specs.Jobs.{Job, MeshJob, GeomJob, Made, IsMeshed, IsDrawn, HoldsGeometry, HoldsRules}
 use Rattle.netmesh_cli.specs.Served.{MakeRefused}
@@ -59,12 +59,12 @@ mesh_at_rules task s0 s1 s2 raw g r same kept holds refused = make_refused (Mesh
 -- what the run of a geometry gives
 pub record IsRunOf (task : MeshTask) (g : PlanarMap) (made : Made) : Type 0 where
   pub puts : made.puts
-      ≡ record { name = task.log; bytes = log_of (graded_input g task.options.grading) } ∷ record { name = task.mesh; bytes = mesh_of (graded_input g task.options.grading) } ∷ []
-  pub answer : made.answer ≡ line_of (graded_input g task.options.grading)
-  pub outcome : made.outcome ≡ outcome_of (run_of (graded_input g task.options.grading)).end
-  pub covered : IsCovered (graded_input g task.options.grading)
+      ≡ record { name = task.log; bytes = log_of (sized_input g task.options.maxh task.options.grading) } ∷ record { name = task.mesh; bytes = mesh_of (sized_input g task.options.maxh task.options.grading) } ∷ []
+  pub answer : made.answer ≡ line_of (sized_input g task.options.maxh task.options.grading)
+  pub outcome : made.outcome ≡ outcome_of (run_of (sized_input g task.options.maxh task.options.grading)).end
+  pub covered : IsCovered (sized_input g task.options.maxh task.options.grading)
 
-pub run_of_texts : (task : MeshTask) (g : PlanarMap) (made : Made) (log mesh line : List ℕ) (end : End) → made.puts ≡ record { name = task.log; bytes = log } ∷ record { name = task.mesh; bytes = mesh } ∷ [] → made.answer ≡ line → made.outcome ≡ outcome_of end → log ≡ log_of (graded_input g task.options.grading) → mesh ≡ mesh_of (graded_input g task.options.grading) → line ≡ line_of (graded_input g task.options.grading) → (run_of (graded_input g task.options.grading)).end ≡ end → IsCovered (graded_input g task.options.grading) → IsRunOf task g made
+pub run_of_texts : (task : MeshTask) (g : PlanarMap) (made : Made) (log mesh line : List ℕ) (end : End) → made.puts ≡ record { name = task.log; bytes = log } ∷ record { name = task.mesh; bytes = mesh } ∷ [] → made.answer ≡ line → made.outcome ≡ outcome_of end → log ≡ log_of (sized_input g task.options.maxh task.options.grading) → mesh ≡ mesh_of (sized_input g task.options.maxh task.options.grading) → line ≡ line_of (sized_input g task.options.maxh task.options.grading) → (run_of (sized_input g task.options.maxh task.options.grading)).end ≡ end → IsCovered (sized_input g task.options.maxh task.options.grading) → IsRunOf task g made
 run_of_texts task g made log mesh line end puts answer outcome is_log is_mesh is_line is_end covered = record {
   puts = puts ∙ (λ i. record { name = task.log; bytes = is_log i } ∷ record { name = task.mesh; bytes = is_mesh i } ∷ []);
   answer = answer ∙ is_line;
@@ -72,10 +72,10 @@ run_of_texts task g made log mesh line end puts answer outcome is_log is_mesh is
   covered = covered;
 }
 
-pub mesh_made : (task : MeshTask) (h0 h1 : Option Files) (raw : RawGeometry) (g : PlanarMap) (made : Made) → task.options ≡ with_grading task.options.grading → h1 ≡ h0 → Told h0 (λ files. HoldsGeometry files task.geometry raw g) → Told h1 (λ files. HoldsRules files task.rules []) → IsRunOf task g made → Told h0 (λ files. IsMeshed task files made)
+pub mesh_made : (task : MeshTask) (h0 h1 : Option Files) (raw : RawGeometry) (g : PlanarMap) (made : Made) → task.options ≡ sizing task.options.maxh task.options.grading → h1 ≡ h0 → Told h0 (λ files. HoldsGeometry files task.geometry raw g) → Told h1 (λ files. HoldsRules files task.rules []) → IsRunOf task g made → Told h0 (λ files. IsMeshed task files made)
 mesh_made task h0 h1 raw g made built same holds rules run = told_both h0 _ _ (λ files. IsMeshed task files made)
     (λ files p r. record {
-      input = graded_input g task.options.grading;
+      input = sized_input g task.options.maxh task.options.grading;
       raw = raw;
       geometry = p;
       rules = r;

@@ -1,11 +1,14 @@
--- A geometry that the reader gives is one that can be checked.
-use Rattle.std.proofs.Common.{◌≡◌, ℕ, ◌+◌, ◌≤◌, ◌==◌, ◌||◌, Bool, true, false, List, [], ◌∷◌, cond, refl, sym, ap, ◌∙◌, arith, inl, inr}
+-- A geometry that the reader gives is one that can be checked, and a size that words ask for can be moved to
+-- the grid.
+use Rattle.std.proofs.Common.{◌≡◌, ℕ, ◌+◌, ◌≤◌, ◌==◌, ◌||◌, Bool, true, false, List, [], ◌∷◌, cond, refl, sym, subst, ap, ◌∙◌, arith, inl, inr}
 use Rattle.std.specs.Prelude.{Option, None, Some, IsSome, IfSome, All, unsigned_abs, ℤ, pos, negsuc, ◌≤ℤ◌}
 use Rattle.std.specs.List.{AllByRecursion, position_from}
 use Rattle.std.proofs.lemmas.Int.{ints}
 use Rattle.std.proofs.lemmas.Bool.{cases_eq, eq-eqb, ne_eqb}
 use Rattle.std.proofs.lemmas.List.Elements.{All-nil, All-cons}
 use Rattle.word_scan.specs.declared.decimals.Dec.{Dec}
+use Rattle.word_scan.specs.Decimals.{decimal_of}
+use Rattle.word_scan.proofs.DecimalLaws.{decimal_found, decimal_is_small}
 use Rattle.in2d_reader.specs.declared.geometry.PointRow.{PointRow}
 use Rattle.in2d_reader.specs.declared.geometry.SegmentRow.{SegmentRow}
 use Rattle.in2d_reader.specs.declared.geometry.MaterialRow.{MaterialRow}
@@ -13,6 +16,9 @@ use Rattle.in2d_reader.specs.declared.geometry.RawGeometry.{RawGeometry}
 use Rattle.in2d_reader.specs.Grammar.{is_known, HasEnds}
 use Rattle.in2d_reader.specs.Normal.{IsDec, IsPointRow, IsSegmentRow, IsMaterialRow, CanPrint}
 use Rattle.geom_check.specs.Placed.{IsReadable, IsReadableNumber, IsReadablePoint, IsReadableSegment, IsReadableMaterial, IsReadableIfAny}
+use Rattle.netmesh_cli.specs.Commands.{IsSize, HasValue, IsCommand, task_of}
+use Rattle.netmesh_cli.specs.declared.command.MeshCall.{MeshCall}
+use Rattle.netmesh_cli.specs.declared.command.Command.TheVariants as commands
 
 scale_least : (z : ℤ) → unsigned_abs z ≤ 99 → negsuc 98 ≤ℤ z
 scale_least z h = omega (arith, ints)
@@ -59,3 +65,17 @@ readable raw can = record {
   segments = all_segments raw.points raw.segments can.segments can.fits.known;
   materials = all_materials raw.materials can.materials;
 }
+
+-- ---- the size that words ask for
+
+word_readable : (word : List ℕ) (d : Dec) → decimal_of word ≡ Some d → IsReadableNumber d
+word_readable word d written =
+    let f = decimal_found word d written in
+    subst IsReadableNumber (sym f.3) (record { digits = decimal_is_small f.0 f.1; scale_least = scale_least _ f.1.scale; scale_greatest = scale_greatest _ f.1.scale })
+
+value_readable : (given : Option (List ℕ)) (value : Option Dec) → HasValue IsSize given value → IsReadableIfAny value
+value_readable None value none = subst IsReadableIfAny (sym none) tt
+value_readable (Some word) value has = subst IsReadableIfAny (sym has.2) (word_readable word has.0 has.1.written)
+
+pub call_readable : (words : List (List ℕ)) (call : MeshCall) → IsCommand words (task_of (commands.Mesh call)) → IsReadableIfAny call.options.maxh
+call_readable words call command = value_readable command.3.1.1.maxh call.options.maxh command.3.1.3.1.maxh

@@ -63,7 +63,7 @@ all_apart g o is q off (c ∷ ds) positive rising = AllPairs-cons (λ c d. ¬ Do
     (all_apart g o is q off ds (All-tail IsPositive c ds positive) rising.1)
 
 pub run_covered : (input : MeshInput) → IsGeometry input.geometry → IsCovered input
-run_covered input is = let g = input.geometry in let o = run_options input.options in record {
+run_covered input is = let g = input.geometry in let o = run_options g.shift input.options in record {
   wound = All-map (IsWound g) (run_in g o) (domain_numbers g.segments) (λ k d inside. wound g o is _ (numbers_positive g.segments k d inside));
   separate = λ q off. all_apart g o is q off (domain_numbers g.segments) (numbers_positive g.segments) (numbers_rise g.segments);
 }

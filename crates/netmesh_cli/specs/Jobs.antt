@@ -11,6 +11,7 @@ use Rattle.std.specs.Prelude.{◌≡◌, ℕ, List, [], ◌∷◌, map}
 use Rattle.folder_io.specs.Names.{Files}
 use Rattle.in2d_reader.specs.declared.geometry.RawGeometry.{RawGeometry}
 use Rattle.rule_reader.specs.declared.rule.Rule.{Rule}
+use Rattle.geom_check.specs.Placed.{IsReadableIfAny}
 use Rattle.geom_check.specs.Geometry.{PlanarMap}
 use Rattle.netmesh_cli.specs.declared.outcome.Outcome.{Outcome}
 use Rattle.netmesh_cli.specs.declared.outcome.Outcome.TheVariants.{Done, Stuck, Stopped, Shown}
@@ -20,7 +21,7 @@ use Rattle.netmesh_cli.specs.declared.command.MeshCall.{MeshCall}
 use Rattle.netmesh_cli.specs.declared.asked.Asked.{Asked}
 use Rattle.netmesh_cli.specs.declared.asked.Asked.TheVariants.{Mesh, Geom}
 use Rattle.netmesh_cli.specs.Commands.{Task, MeshTask, MeshOf, GeomOf}
-use Rattle.netmesh_cli.specs.Words.{with_grading}
+use Rattle.netmesh_cli.specs.Words.{sizing}
 use Rattle.netmesh_cli.specs.Accepted.{IsGeometryText, AreRules}
 use Rattle.netmesh_cli.specs.Causes.{HoldsWithin}
 use Rattle.netmesh_cli.specs.Taking.{Taken, geometry_at, ruleless_file_at}
@@ -53,10 +54,15 @@ abbrev pub job_of : Asked → Job
 job_of (Mesh call) = MeshJob (task_of_mesh call)
 job_of (Geom geometry) = GeomJob geometry.now
 
--- of the options of `mesh` the grading alone is built so far
+-- of the options of `mesh` the greatest size and the grading are built so far
 abbrev pub IsBuilt : Job → Type 0
-IsBuilt (MeshJob task) = task.options ≡ with_grading task.options.grading
+IsBuilt (MeshJob task) = task.options ≡ sizing task.options.maxh task.options.grading
 IsBuilt (GeomJob geometry) = Unit {0}
+
+-- a greatest size that is given is in the ranges of a decimal that a word writes
+abbrev pub HasReadableSize : Job → Type 0
+HasReadableSize (MeshJob task) = IsReadableIfAny task.options.maxh
+HasReadableSize (GeomJob geometry) = Unit {0}
 
 -- ---- what is taken and put
 

@@ -4,13 +4,15 @@
 -- run_of            its whole run. So far no rule is applied, and the rule files that are accepted hold none
 -- log_of ..         the bytes of the two files that are put, and the line that is written
 -- IsCovered         the fronts of the run wind as the boundaries of the domains do
-use Rattle.std.specs.Prelude.{◌≡◌, ℕ, min, pos, List, [], Option, Some, None, All, AllPairs}
+use Rattle.std.specs.Prelude.{◌≡◌, ℕ, min, ℤ, pos, List, [], Option, Some, None, All, AllPairs}
+use Rattle.word_scan.specs.declared.decimals.Dec.{Dec}
 use Rattle.grid_geom.specs.declared.RatPoint.{RatPoint}
 use Rattle.grid_geom.specs.declared.TheConstants.{LONGEST}
 use Rattle.grid_geom.specs.Plane.{IsRational}
 use Rattle.grid_geom.specs.Winding.{wind}
 use Rattle.grid_geom.specs.Closed.{IsOff}
 use Rattle.rule_reader.specs.declared.rule.Rule.{Rule}
+use Rattle.geom_check.specs.Shift.{length_at}
 use Rattle.geom_check.specs.Boundary.{boundary, edges_of}
 use Rattle.geom_check.specs.Accepted.{IsZeroOrOne}
 use Rattle.geom_check.specs.Geometry.{PlanarMap}
@@ -28,7 +30,7 @@ use Rattle.run_log.specs.Summary.{summary_line}
 use Rattle.netmesh_cli.specs.declared.command.MeshOptions.{MeshOptions}
 use Rattle.netmesh_cli.specs.declared.outcome.Outcome.{Outcome}
 use Rattle.netmesh_cli.specs.declared.outcome.Outcome.TheVariants.{Done, Stuck, Stopped}
-use Rattle.netmesh_cli.specs.Words.{with_grading}
+use Rattle.netmesh_cli.specs.Words.{sizing}
 
 -- what `mesh` accepts: the geometry, the rules, and the options that it is given
 pub record MeshInput : Type 0 where
@@ -36,29 +38,34 @@ pub record MeshInput : Type 0 where
   pub rules : List Rule
   pub options : MeshOptions
 
--- a geometry and a grading, if it is given: no rule, and no other option
-abbrev pub graded_input : PlanarMap → Option ℕ → MeshInput
-graded_input g grading = record { geometry = g; rules = []; options = with_grading grading }
+-- a geometry, and a greatest size and a grading where they are given: no rule, and no other option
+abbrev pub sized_input : PlanarMap → Option Dec → Option ℕ → MeshInput
+sized_input g maxh grading = record { geometry = g; rules = []; options = sizing maxh grading }
 
 -- the value that is given, or else this one
 abbrev pub given_or : Option ℕ → ℕ → ℕ
 given_or None usual = usual
 given_or (Some value) usual = value
 
--- the options of the run: where they aren't given, the greatest size there is, a grading of 0.3,
--- classes 1 to 10, and no limit on applications. So far no greatest size can be given. A grading is at most
--- 10,000 thousandths, as the words of a call say too
-abbrev pub run_options : MeshOptions → Options
-run_options options = record {
-  greatest = LONGEST;
+-- a greatest size in grid steps, at the shift of a geometry, or else the greatest there is
+abbrev pub greatest_size : ℤ → Option Dec → ℕ
+greatest_size shift None = LONGEST
+greatest_size shift (Some size) = length_at shift size
+
+-- the options of a run at the shift of its geometry: where they aren't given, the greatest size there is, a
+-- grading of 0.3, classes 1 to 10, and no limit on applications. A grading is at most 10,000 thousandths, as
+-- the words of a call say too
+abbrev pub run_options : ℤ → MeshOptions → Options
+run_options shift options = record {
+  greatest = greatest_size shift options.maxh;
   grading = min (given_or options.grading 300) 10000;
   last = given_or options.class 10;
   limit = options.steps;
 }
 
--- the whole run: the segments are cut by the sizes that the geometry gives
+-- the whole run: the segments are cut by the greatest size and by the sizes that the geometry gives
 abbrev pub run_of : MeshInput → WholeRun
-run_of input = unmeshed_geometry input.geometry (run_options input.options)
+run_of input = unmeshed_geometry input.geometry (run_options input.geometry.shift input.options)
 
 -- the bytes of the log file
 abbrev pub log_of : MeshInput → List ℕ

@@ -2,7 +2,8 @@
 
 ghost use Rattle.std.specs.Prelude.{◌≡◌, ◌≤◌, ◌∷◌, [], map, IfOk, IfErr};
 ghost use Rattle.folder_io.specs.Causes.{Told};
-ghost use Rattle.netmesh_cli.specs.Words.{with_grading};
+ghost use Rattle.geom_check.specs.Placed.{IsReadableIfAny};
+ghost use Rattle.netmesh_cli.specs.Words.{sizing};
 ghost use Rattle.netmesh_cli.specs.Run.{outcome_of};
 ghost use Rattle.netmesh_cli.specs.Jobs.{IsMeshed, IsRunOutcome, MeshJob, made_of, put_of};
 ghost use Rattle.netmesh_cli.specs.Jobs.{names_of_puts, puts_of, task_of_mesh};
@@ -59,14 +60,15 @@ fn made_of_texts<'a>(
     })
 }
 
-/// What `mesh` makes of the geometry and the rules that it takes. So far it is given no option but
-/// the grading.
+/// What `mesh` makes of the geometry and the rules that it takes. So far it is given no options but
+/// the greatest size and the grading.
 pub fn make_mesh<'a, F: Folder>(
     alloc: Global,
     call: &MeshCall<'a>,
     folder: &mut F,
 ) -> Result<Made<'a>, Refusal>
-    requires { call.now.options ≡ with_grading call.now.options.grading }
+    requires built { call.now.options ≡ sizing call.now.options.maxh call.now.options.grading }
+    requires readable { IsReadableIfAny call.now.options.maxh }
     ensures held { (F.state folder.new).held ≡ (F.state folder.old).held }
     ensures made { IfOk result (λ made. Told (F.state folder.old).held
         (λ files. IsMeshed (task_of_mesh call.now) files (made_of made))) }
@@ -79,7 +81,12 @@ pub fn make_mesh<'a, F: Folder>(
 {
     let read = take_geometry(alloc, folder, call.geometry)?;
     take_rules(alloc, folder, call.rules)?;
-    let texts = run_texts(alloc, &read.geometry, call.options.grading)?;
+    let texts = run_texts(
+        alloc,
+        &read.geometry,
+        call.options.maxh,
+        call.options.grading,
+    )?;
     let made = made_of_texts(alloc, call, texts)?;
     Ok(made)
 }

@@ -2,7 +2,7 @@
 
 ghost use Rattle.std.specs.Prelude.{◌≡◌, ◌≤◌, [], map, IfOk, IfErr};
 ghost use Rattle.folder_io.specs.Causes.{Told, ToldBoth};
-ghost use Rattle.netmesh_cli.specs.Jobs.{job_of, IsBuilt, EndsSo, Makes, made_of, put_of};
+ghost use Rattle.netmesh_cli.specs.Jobs.{job_of, IsBuilt, HasReadableSize, EndsSo, Makes, made_of, put_of};
 ghost use Rattle.netmesh_cli.specs.Jobs.{names_of_puts, puts_of};
 ghost use Rattle.netmesh_cli.specs.Served.{IsServed, IsAnswer, MakeRefused, Course, WrittenBefore};
 
@@ -20,7 +20,8 @@ fn make<'a, F: Folder>(
     asked: &Asked<'a>,
     folder: &mut F,
 ) -> Result<Made<'a>, Refusal>
-    requires { IsBuilt (job_of asked.now) }
+    requires built { IsBuilt (job_of asked.now) }
+    requires readable { HasReadableSize (job_of asked.now) }
     ensures held { (F.state folder.new).held ≡ (F.state folder.old).held }
     ensures made { IfOk result (λ made. Told (F.state folder.old).held
         (λ files. Makes (job_of asked.now) files (made_of made))) }
@@ -44,7 +45,8 @@ pub fn serve<F: Folder, O: Sink>(
     folder: &mut F,
     out: &mut O,
 ) -> Result<Outcome, Refusal>
-    requires { IsBuilt (job_of asked.now) }
+    requires built { IsBuilt (job_of asked.now) }
+    requires readable { HasReadableSize (job_of asked.now) }
     ensures served { IfOk result (λ outcome. ToldBoth (F.state folder.old).held (F.state folder.new).held
         (IsServed (job_of asked.now) outcome
         (O.state out.old).written (O.state out.new).written)) }

@@ -6,7 +6,8 @@ ghost use Rattle.netmesh_cli.specs.declared.words_fault.WordsFault.{WordsFault a
 ghost use Rattle.netmesh_cli.specs.Commands.{MeshTask, MeshOf, IsCommand, IsFault};
 ghost use Rattle.netmesh_cli.specs.Words.{AskForUnbuilt};
 ghost use Rattle.netmesh_cli.specs.Causes.{IsUntaken, HasFailed};
-ghost use Rattle.netmesh_cli.specs.Jobs.{Job, MeshJob, IsBuilt, job_of, puts_of, task_of_job};
+ghost use Rattle.netmesh_cli.specs.Jobs.{Job, MeshJob, IsBuilt, HasReadableSize};
+ghost use Rattle.netmesh_cli.specs.Jobs.{job_of, puts_of, task_of_job};
 ghost use Rattle.netmesh_cli.specs.Served.{AreApart};
 ghost use Rattle.netmesh_cli.specs.Top.{IsNotYetOrMemory, IsWordsOrMemory, Telling, WritesLine};
 ghost use Rattle.netmesh_cli.specs.Top.{WordsAnswer, WordsCause, Answers, Exactly, HoldsMesh};
@@ -46,6 +47,7 @@ fn answered<F: Folder, O: Sink>(
     out: &mut O,
 ) -> Outcome
     requires built { IsBuilt (job_of asked.now) }
+    requires readable { HasReadableSize (job_of asked.now) }
     requires apart { AreApart (puts_of (job_of asked.now)) }
     ensures answers { Answers (job_of asked.now) result
         (F.state folder.old) (F.state folder.new) (O.state out.old) (O.state out.new) }
@@ -62,13 +64,14 @@ fn answered<F: Folder, O: Sink>(
 }
 
 /// Runs the program on its words. `mesh GEOMETRY RULES MESH LOG` meshes the geometry by the rules,
-/// puts the log and then the mesh, and writes a summary line. `geom GEOMETRY` writes the geometry's
-/// normal text, and as comments its shift and the doubled areas of its domains.
+/// puts the log and then the mesh, and writes a summary line. `--maxh V` is the greatest size anywhere,
+/// and `--grading N` how fast sizes may grow. `geom GEOMETRY` writes the geometry's normal text, and as
+/// comments its shift and the doubled areas of its domains.
 ///
-/// Refused are words at fault; `mesh` with an option, and the other verbs; a file that isn't there, is
-/// too long or can't be taken or put; a text of no geometry; a geometry that isn't accepted; and by
-/// `mesh` bytes that are no rule file, and a rule file with a rule. A refusal writes its line. Where memory is refused the outcome says so, and no clause says when
-/// it may be.
+/// Refused are words at fault; `mesh` with `--class` or `--steps`, and the other verbs; a file that
+/// isn't there, is too long or can't be taken or put; a text of no geometry; a geometry that isn't
+/// accepted; and by `mesh` bytes that are no rule file, and a rule file with a rule. A refusal writes
+/// its line. Where memory is refused the outcome says so, and no clause says when it may be.
 pub fn netmesh<R: Threads + Sync, F: Folder, O: Sink, G: Gate + Sync>(
     _rt: &R,
     alloc: Global,

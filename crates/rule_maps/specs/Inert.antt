@@ -38,7 +38,8 @@ net ps i j = pos (count ps i j) -ℤ pos (count ps j i)
 
 -- the sides of elements are the lines that leave, less those that join
 pub record IsBalanced (r : Rule) : Type 0 where
-  pub balanced : (i j : ℕ) → net (flat_map sides r.elements) i j ≡ net (leaving r.lines) i j -ℤ net r.new_lines i j
+  pub balanced : (i j : ℕ) → net (flat_map sides r.elements) i j
+      ≡ net (leaving r.lines) i j -ℤ net r.new_lines i j
 
 -- line 1 isn't marked `del`
 abbrev pub IsKept : List MapLine → Type 0
@@ -75,7 +76,8 @@ HasState r (Some Unbalanced) = ¬ IsBalanced r
 HasState r (Some BaseKept) = IsBalanced r × IsBaseKept r
 HasState r (Some NoElement) = IsBalanced r × (¬ IsBaseKept r) × HasNoElement r
 HasState r (Some IdlePoint) = IsBalanced r × (¬ IsBaseKept r) × (¬ HasNoElement r) × HasIdlePoint r
-HasState r (Some BadZone) = IsBalanced r × (¬ IsBaseKept r) × (¬ HasNoElement r) × (¬ HasIdlePoint r) × HasBadZone r
+HasState r (Some BadZone) = IsBalanced r × (¬ IsBaseKept r) × (¬ HasNoElement r)
+    × (¬ HasIdlePoint r) × HasBadZone r
 HasState r None = IsLive r
 
 -- ---- the lines that leave, each turned round

@@ -35,10 +35,12 @@ abbrev pub mapped_at : List Point → ℕ → Point
 mapped_at mapped k = slice_index_or mapped (k - 1) (record { x = pos 0; y = pos 0 })
 
 abbrev pub point_at : List MapPoint → ℕ → MapPoint
-point_at points k = slice_index_or points (k - 1) (record { x = pos 0; y = pos 0; tol = record { f1 = pos 0; f2 = pos 0; f3 = pos 0 } })
+point_at points k = slice_index_or points (k - 1)
+    (record { x = pos 0; y = pos 0; tol = record { f1 = pos 0; f2 = pos 0; f3 = pos 0 } })
 
 abbrev pub place_at : List Place → ℕ → Place
-place_at places k = slice_index_or places (k - 1) (record { x = pos 0; y = pos 0; row_x = []; row_y = [] })
+place_at places k = slice_index_or places (k - 1)
+    (record { x = pos 0; y = pos 0; row_x = []; row_y = [] })
 
 -- the second, where it is asked for
 abbrev pub either : {A : Type 0} → Bool → A → A → A
@@ -47,7 +49,8 @@ either true x y = y
 
 -- the local place of a term's mapped point less its place in the rule, in the term's coordinate
 abbrev pub deviation : Mapping → Term → Fraction
-deviation m t = minus (either t.of_y (local_x m.frame (mapped_at m.mapped t.point)) (local_y m.frame (mapped_at m.mapped t.point)))
+deviation m t = minus (either t.of_y (local_x m.frame (mapped_at m.mapped t.point))
+    (local_y m.frame (mapped_at m.mapped t.point)))
     (number (either t.of_y (point_at m.rule.points t.point).x (point_at m.rule.points t.point).y))
 
 -- coefficient times deviation, added up
@@ -68,7 +71,8 @@ local_of m p = record { u = row_value m p.x p.row_x; v = row_value m p.y p.row_y
 
 -- (area + (2 class - 2) * limit) / (2 class - 1)
 abbrev pub mix : ℕ → Fraction → Fraction → Fraction
-mix class area limit = divided (plus area (times (whole (pos 2 *ℤ pos class -ℤ pos 2)) limit)) (pos 2 *ℤ pos class -ℤ pos 1)
+mix class area limit = divided (plus area (times (whole (pos 2 *ℤ pos class -ℤ pos 2)) limit))
+    (pos 2 *ℤ pos class -ℤ pos 1)
 
 unfoldable pub mixed : ℕ → Local → Local → Local
 mixed class area limit = record { u = mix class area.u limit.u; v = mix class area.v limit.v }
@@ -81,8 +85,10 @@ placed_at start part square = nearest (plus (whole start) (divided part square))
 unfoldable pub placed : LocalFrame → Local → Point
 placed f at =
     record {
-      x = placed_at f.p1.x (minus (times at.u (whole (f.q *ℤ f.e.x))) (times at.v (whole (f.q *ℤ f.e.y)))) (dot f.e f.e);
-      y = placed_at f.p1.y (plus (times at.u (whole (f.q *ℤ f.e.y))) (times at.v (whole (f.q *ℤ f.e.x)))) (dot f.e f.e);
+      x = placed_at f.p1.x (minus (times at.u (whole (f.q *ℤ f.e.x)))
+          (times at.v (whole (f.q *ℤ f.e.y)))) (dot f.e f.e);
+      y = placed_at f.p1.y (plus (times at.u (whole (f.q *ℤ f.e.y)))
+          (times at.v (whole (f.q *ℤ f.e.x)))) (dot f.e f.e);
     }
 
 -- the place of new point k
@@ -96,7 +102,9 @@ narrowest area (p ∷ limit) = p ∷ limit
 
 -- the place of corner k at a class
 unfoldable pub corner : Mapping → ℕ → ℕ → Point
-corner m k class = placed m.frame (mixed class (local_of m (place_at m.rule.area k)) (local_of m (place_at (narrowest m.rule.area m.rule.limit) k)))
+corner m k class = placed m.frame
+    (mixed class (local_of m (place_at m.rule.area k))
+    (local_of m (place_at (narrowest m.rule.area m.rule.limit) k)))
 
 -- a frame, a rule within the limits, and as many points in range as the rule maps
 pub record IsMapping (m : Mapping) : Type 0 where

@@ -17,7 +17,8 @@ use Rattle.rule_maps.specs.Sums.{rest_at}
 
 abbrev pub stretch : List MapPoint → List Term → ℕ
 stretch points [] = 0
-stretch points (t ∷ ts) = unsigned_abs t.coefficient * (130000 + unsigned_abs (rest_at points t)) + stretch points ts
+stretch points (t ∷ ts) = unsigned_abs t.coefficient * (130000 + unsigned_abs (rest_at points t))
+    + stretch points ts
 
 abbrev pub extent : List MapPoint → ℤ → List Term → ℕ
 extent points x0 row = 10000 * unsigned_abs x0 + stretch points row

@@ -14,7 +14,8 @@ use Rattle.rule_maps.specs.Places.{mapped_at, point_at, either}
 
 -- q times the local coordinate of a term's mapped point
 abbrev pub seen_at : LocalFrame → List Point → Term → ℤ
-seen_at f mapped t = either t.of_y (dot f.e (way f.p1 (mapped_at mapped t.point))) (cross f.e (way f.p1 (mapped_at mapped t.point)))
+seen_at f mapped t = either t.of_y (dot f.e (way f.p1 (mapped_at mapped t.point)))
+    (cross f.e (way f.p1 (mapped_at mapped t.point)))
 
 -- its coordinate in the rule
 abbrev pub rest_at : List MapPoint → Term → ℤ

@@ -113,9 +113,11 @@ impl<'a> Compiled<'a> {
         requires range { All (IsInRange f.now) mapped.now }
         requires class_least { 1 ≤ class }
         requires class_greatest { class ≤ 16 }
-        ensures placed { IfSome result (λ p. p ≡ corner (mapping f.now self.now mapped.now) k class) }
+        ensures placed { IfSome result
+            (λ p. p ≡ corner (mapping f.now self.now mapped.now) k class) }
         ensures on { IfSome result IsOnGrid }
-        ensures off { IfNone result (¬ IsOnGrid (corner (mapping f.now self.now mapped.now) k class)) }
+        ensures off { IfNone result
+            (¬ IsOnGrid (corner (mapping f.now self.now mapped.now) k class)) }
     {
         let place = &self.rule.area.as_slice()[k - 1];
         let wide = numerators(&self.area[k - 1], place, f, mapped);

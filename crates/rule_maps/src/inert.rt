@@ -89,7 +89,8 @@ fn count_of(pairs: &[Pair], i: u64, j: u64) -> usize
 
 /// Whether each pair is in the list as often as its reverse.
 fn is_even(pairs: &[Pair]) -> bool
-    ensures { IsTrue result ↔ AllByRecursion (λ p. count pairs.now p.0 p.1 ≡ count pairs.now p.1 p.0) pairs.now }
+    ensures { IsTrue result ↔ AllByRecursion
+        (λ p. count pairs.now p.0 p.1 ≡ count pairs.now p.1 p.0) pairs.now }
 {
     for pair in pairs {
         if count_of(pairs, pair.0, pair.1) != count_of(pairs, pair.1, pair.0) {
@@ -129,7 +130,8 @@ fn is_named(corners: &[u64], point: u64) -> bool
 
 /// Whether no element names this point.
 fn is_idle(rule: &Rule, point: u64) -> bool
-    ensures { IsTrue result ↔ AllByRecursion (λ corners. ¬ Contains corners point) rule.now.elements }
+    ensures { IsTrue result ↔ AllByRecursion
+        (λ corners. ¬ Contains corners point) rule.now.elements }
 {
     for element in rule.elements.as_slice() {
         if is_named(element.as_slice(), point) {

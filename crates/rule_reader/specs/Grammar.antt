@@ -41,31 +41,39 @@ abbrev pub plain : Tok → Said
 plain word = record { word = word; index = None }
 
 abbrev pub naming : Tok → Bound → ℕ → Said
-naming word bound value = record { word = word; index = Some (record { bound = bound; value = value }) }
+naming word bound value = record {
+  word = word;
+  index = Some (record { bound = bound; value = value });
+}
 
 abbrev pub words : List Said → List Tok
 words said = map (λ s. s.word) said
 
 -- one thing, and then another that may depend on its value
 infixr 10 ◌▹◌
-unfoldable pub ◌▹◌ : {A B : Type 0} → (List Said → A → Type 0) → (A → List Said → B → Type 0) → List Said → B → Type 0
-◌▹◌ {A} L M said y = (x : A) × (front : List Said) × (back : List Said) × L front x × M x back y × (said ≡ front ++ back)
+unfoldable pub ◌▹◌ : {A B : Type 0} → (List Said → A → Type 0) → (A → List Said → B → Type 0)
+    → List Said → B → Type 0
+◌▹◌ {A} L M said y = (x : A) × (front : List Said) × (back : List Said) × L front x × M x back y
+    × (said ≡ front ++ back)
 
 -- nothing more
 unfoldable pub done : {A : Type 0} → A → List Said → A → Type 0
 done x said y = (said ≡ []) × (y ≡ x)
 
 -- one or the other
-unfoldable pub either : {A : Type 0} → (List Said → A → Type 0) → (List Said → A → Type 0) → List Said → A → Type 0
+unfoldable pub either : {A : Type 0} → (List Said → A → Type 0) → (List Said → A → Type 0)
+    → List Said → A → Type 0
 either L M said y = L said y ⊎ M said y
 
 -- as many as there are, the first of them with so many before it
 unfoldable pub many : {A : Type 0} → (ℕ → List Said → A → Type 0) → ℕ → List Said → List A → Type 0
 many entry before said [] = said ≡ []
-many entry before said (x ∷ xs) = (front : List Said) × (back : List Said) × entry before front x × many entry (before + 1) back xs × (said ≡ front ++ back)
+many entry before said (x ∷ xs) = (front : List Said) × (back : List Said) × entry before front x
+    × many entry (before + 1) back xs × (said ≡ front ++ back)
 
 -- as many, and at most so many
-unfoldable pub at_most : {A : Type 0} → ℕ → (ℕ → List Said → A → Type 0) → List Said → List A → Type 0
+unfoldable pub at_most : {A : Type 0} → ℕ → (ℕ → List Said → A → Type 0) → List Said → List A
+    → Type 0
 at_most most entry said xs = many entry 0 said xs × (length xs ≤ most)
 
 -- how many there are at most, by the numbers that refusals have: 1 rules, 2 mappoints, 3 maplines, 4 newpoints, 5 newlines,
@@ -89,13 +97,16 @@ text said bytes = said ≡ plain (TextTok bytes) ∷ []
 
 -- a number in units of 1/10,000, at most the greatest in size
 unfoldable pub number : ℕ → List Said → ℤ → Type 0
-number greatest said n = (bytes : List ℕ) × (said ≡ plain (NumberTok bytes) ∷ []) × (number_of greatest bytes ≡ Some n)
+number greatest said n = (bytes : List ℕ) × (said ≡ plain (NumberTok bytes) ∷ [])
+    × (number_of greatest bytes ≡ Some n)
 
 unfoldable pub quality : List Said → ℕ → Type 0
-quality said n = (bytes : List ℕ) × (said ≡ plain (NumberTok bytes) ∷ []) × (whole_of bytes 1000 ≡ Some n)
+quality said n = (bytes : List ℕ) × (said ≡ plain (NumberTok bytes) ∷ [])
+    × (whole_of bytes 1000 ≡ Some n)
 
 unfoldable pub index : Bound → List Said → ℕ → Type 0
-index bound said n = (bytes : List ℕ) × (said ≡ naming (NumberTok bytes) bound n ∷ []) × (whole_of bytes 9999 ≡ Some n)
+index bound said n = (bytes : List ℕ) × (said ≡ naming (NumberTok bytes) bound n ∷ [])
+    × (whole_of bytes 9999 ≡ Some n)
 
 -- `X` or `Y`
 abbrev pub letter : Bool → ℕ
@@ -104,7 +115,9 @@ letter true = 89
 
 -- a letter with digits behind it, in one word
 unfoldable pub joined_variable : List Said → Bool × ℕ → Type 0
-joined_variable said v = (digits : List ℕ) × (0 < length digits) × (said ≡ naming (NameTok (letter v.0 ∷ digits)) Mapped v.1 ∷ []) × (whole_of digits 9999 ≡ Some v.1)
+joined_variable said v = (digits : List ℕ) × (0 < length digits)
+    × (said ≡ naming (NameTok (letter v.0 ∷ digits)) Mapped v.1 ∷ [])
+    × (whole_of digits 9999 ≡ Some v.1)
 
 -- a letter, and an index as a word of its own
 abbrev pub parted_variable : Bool → List Said → Bool × ℕ → Type 0
@@ -127,19 +140,22 @@ del = either (name del_word ▹ λ u. done true) (done false)
 
 -- weights and `del`, each at most once, in either order
 abbrev pub marks : List Said → Triple × Bool → Type 0
-marks = either (name del_word ▹ λ u. tolerance ▹ λ tol. done (tol, true)) (either (triple ▹ λ tol. del ▹ λ d. done (tol, d)) (done (unit_weights, false)))
+marks = either (name del_word ▹ λ u. tolerance ▹ λ tol. done (tol, true))
+    (either (triple ▹ λ tol. del ▹ λ d. done (tol, d)) (done (unit_weights, false)))
 
 abbrev pub coordinates : List Said → ℤ × ℤ → Type 0
 coordinates = mark 40 ▹ λ a. number 160000 ▹ λ x. mark 44 ▹ λ b. number 160000 ▹ λ y. mark 41 ▹ λ c. done (x, y)
 
 abbrev pub map_point : ℕ → List Said → MapPoint → Type 0
-map_point before = coordinates ▹ λ p. marks ▹ λ m. mark 59 ▹ λ c. done (record { x = p.0; y = p.1; tol = m.0 })
+map_point before = coordinates ▹ λ p. marks ▹ λ m. mark 59 ▹ λ c. done
+    (record { x = p.0; y = p.1; tol = m.0 })
 
 abbrev pub ends : Bound → Bound → List Said → ℕ × ℕ → Type 0
 ends first second = mark 40 ▹ λ a. index first ▹ λ i. mark 44 ▹ λ b. index second ▹ λ j. mark 41 ▹ λ c. done (i, j)
 
 abbrev pub line : Bound → Bound → List Said → MapLine → Type 0
-line first second = ends first second ▹ λ e. marks ▹ λ m. mark 59 ▹ λ c. done (record { i = e.0; j = e.1; tol = m.0; del = m.1 })
+line first second = ends first second ▹ λ e. marks ▹ λ m. mark 59 ▹ λ c. done
+    (record { i = e.0; j = e.1; tol = m.0; del = m.1 })
 
 -- the first line goes from point 1 to point 2
 abbrev pub map_line : ℕ → List Said → MapLine → Type 0
@@ -147,7 +163,8 @@ map_line zero = line First Second
 map_line (suc before) = line Mapped Mapped
 
 abbrev pub term : List Said → Term → Type 0
-term = number 160000 ▹ λ c. variable ▹ λ v. done (record { coefficient = c; of_y = v.0; point = v.1 })
+term = number 160000 ▹ λ c. variable ▹ λ v. done
+    (record { coefficient = c; of_y = v.0; point = v.1 })
 
 -- terms with commas between them
 abbrev pub terms : Limits → List Said → List Term → Type 0
@@ -161,7 +178,8 @@ abbrev pub rows : Limits → List Said → List Term × List Term → Type 0
 rows most = either (row most ▹ λ x. either (row most) (done []) ▹ λ y. done (x, y)) (done ([], []))
 
 abbrev pub place : Limits → ℕ → List Said → Place → Type 0
-place most before = coordinates ▹ λ p. rows most ▹ λ r. mark 59 ▹ λ c. done (record { x = p.0; y = p.1; row_x = r.0; row_y = r.1 })
+place most before = coordinates ▹ λ p. rows most ▹ λ r. mark 59 ▹ λ c. done
+    (record { x = p.0; y = p.1; row_x = r.0; row_y = r.1 })
 
 abbrev pub pair : ℕ → List Said → ℕ × ℕ → Type 0
 pair before = ends Any Any ▹ λ e. mark 59 ▹ λ c. done e
@@ -179,19 +197,28 @@ turn before = three Mapped
 
 -- the word of a section of a kind that these parts don't have yet
 unfoldable pub section_word : Parts → List Said → SectionKind → Type 0
-section_word parts said kind = (bytes : List ℕ) × (said ≡ plain (NameTok bytes) ∷ []) × (section_of bytes ≡ Some kind) × (has kind parts ≡ false)
+section_word parts said kind = (bytes : List ℕ) × (said ≡ plain (NameTok bytes) ∷ [])
+    × (section_of bytes ≡ Some kind) × (has kind parts ≡ false)
 
 -- what stands behind the word of a section, and the parts with it
 abbrev pub content : Limits → Parts → SectionKind → List Said → Parts → Type 0
 content most parts kind.Quality = quality ▹ λ x. done (record parts { quality = Some x })
-content most parts kind.MapPoints = at_most (most 2) map_point ▹ λ x. done (record parts { points = Some x })
-content most parts kind.MapLines = at_most (most 3) map_line ▹ λ x. done (record parts { lines = Some x })
-content most parts kind.NewPoints = at_most (most 4) (place most) ▹ λ x. done (record parts { new_points = Some x })
-content most parts kind.NewLines = at_most (most 5) pair ▹ λ x. done (record parts { new_lines = Some x })
-content most parts kind.FreeArea = at_most (most 6) (place most) ▹ λ x. done (record parts { area = Some x })
-content most parts kind.FreeArea2 = at_most (most 7) (place most) ▹ λ x. done (record parts { limit = Some x })
-content most parts kind.Elements = at_most (most 8) element ▹ λ x. done (record parts { elements = Some x })
-content most parts kind.Orientations = at_most (most 9) turn ▹ λ x. done (record parts { turns = Some x })
+content most parts kind.MapPoints =
+    at_most (most 2) map_point ▹ λ x. done (record parts { points = Some x })
+content most parts kind.MapLines =
+    at_most (most 3) map_line ▹ λ x. done (record parts { lines = Some x })
+content most parts kind.NewPoints =
+    at_most (most 4) (place most) ▹ λ x. done (record parts { new_points = Some x })
+content most parts kind.NewLines =
+    at_most (most 5) pair ▹ λ x. done (record parts { new_lines = Some x })
+content most parts kind.FreeArea =
+    at_most (most 6) (place most) ▹ λ x. done (record parts { area = Some x })
+content most parts kind.FreeArea2 =
+    at_most (most 7) (place most) ▹ λ x. done (record parts { limit = Some x })
+content most parts kind.Elements =
+    at_most (most 8) element ▹ λ x. done (record parts { elements = Some x })
+content most parts kind.Orientations =
+    at_most (most 9) turn ▹ λ x. done (record parts { turns = Some x })
 
 abbrev pub section : Limits → Parts → List Said → Parts → Type 0
 section most parts = section_word parts ▹ content most parts
@@ -221,7 +248,8 @@ Hits points new_points (Some index) = misses index.bound index.value points new_
 
 -- each index names a point that it may name, there is a mapped line, and at most three parts of the graph don't hold point 1
 pub record Fitting (said : List Said) (rule : Rule) : Type 0 where
-  pub indices : AllByRecursion (λ s. Hits (length rule.points) (length rule.new_points) s.index) said
+  pub indices : AllByRecursion (λ s. Hits (length rule.points)
+      (length rule.new_points) s.index) said
   pub lines : 0 < length rule.lines
   pub starts : loose_starts (length rule.points) rule.lines ≤ 3
 

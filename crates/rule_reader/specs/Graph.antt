@@ -13,7 +13,8 @@ HasOne P [] = ⊥
 HasOne P (x ∷ xs) = P x ⊎ HasOne P xs
 
 abbrev pub Linked : List MapLine → ℕ → ℕ → Type 0
-Linked lines a b = HasOne (λ line. ((line.i ≡ a) × (line.j ≡ b)) ⊎ ((line.i ≡ b) × (line.j ≡ a))) lines
+Linked lines a b = HasOne (λ line. ((line.i ≡ a) × (line.j ≡ b))
+    ⊎ ((line.i ≡ b) × (line.j ≡ a))) lines
 
 -- a walk along lines, from the first point over those of a list to the last
 abbrev pub IsWalk : List MapLine → ℕ → List ℕ → ℕ → Type 0

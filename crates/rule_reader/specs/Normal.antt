@@ -25,14 +25,16 @@ minus (negsuc n) = 45 ∷ []
 -- the decimals of part / 10^places, without noughts at the end
 abbrev pub decimals : ℕ → ℕ → List ℕ
 decimals zero part = []
-decimals (suc places) part = if part == 0 then [] else (48 + part / 10 ^ places) ∷ decimals places (part % 10 ^ places)
+decimals (suc places) part = if part == 0 then []
+    else (48 + part / 10 ^ places) ∷ decimals places (part % 10 ^ places)
 
 -- a point and the decimals, if there are any
 abbrev pub fraction_text : ℕ → List ℕ
 fraction_text part = if part == 0 then [] else 46 ∷ decimals 4 part
 
 unfoldable pub number_text : ℤ → List ℕ
-number_text z = minus z ++ (decimal (unsigned_abs z / 10000) ++ fraction_text (unsigned_abs z % 10000))
+number_text z = minus z ++ (decimal (unsigned_abs z / 10000)
+    ++ fraction_text (unsigned_abs z % 10000))
 
 -- ---- entries
 
@@ -51,7 +53,8 @@ abbrev pub ends_text : ℕ → ℕ → List ℕ
 ends_text i j = codes "(" ++ (decimal i ++ (comma ++ (decimal j ++ codes ")")))
 
 abbrev pub triple_text : Triple → List ℕ
-triple_text t = codes " { " ++ (number_text t.f1 ++ (comma ++ (number_text t.f2 ++ (comma ++ (number_text t.f3 ++ codes " }")))))
+triple_text t = codes " { " ++ (number_text t.f1
+    ++ (comma ++ (number_text t.f2 ++ (comma ++ (number_text t.f3 ++ codes " }")))))
 
 abbrev pub map_point_text : MapPoint → List ℕ
 map_point_text p = coordinates_text p.x p.y ++ (triple_text p.tol ++ close)
@@ -109,7 +112,9 @@ sections_text r =
     section_text (codes "newpoints\n") place_text r.new_points ++ (
     section_text (codes "newlines\n") pair_text r.new_lines ++ (
     section_text (codes "freearea\n") place_text r.area ++ (
-    section_text (codes "freearea2\n") place_text r.limit ++ (section_text (codes "elements\n") element_text r.elements ++ section_text (codes "orientations\n") turn_text r.turns)
+    section_text (codes "freearea2\n") place_text r.limit
+    ++ (section_text (codes "elements\n") element_text r.elements
+    ++ section_text (codes "orientations\n") turn_text r.turns)
     )
     )
     )
@@ -117,7 +122,8 @@ sections_text r =
     )
 
 abbrev pub head_text : Rule → List ℕ
-head_text r = codes "rule \"" ++ (r.name ++ (codes "\"\nquality " ++ (decimal r.quality ++ codes "\n")))
+head_text r = codes "rule \"" ++ (r.name ++ (codes "\"\nquality "
+    ++ (decimal r.quality ++ codes "\n")))
 
 abbrev pub rule_text : Rule → List ℕ
 rule_text r = head_text r ++ (sections_text r ++ codes "endrule\n")
@@ -182,11 +188,14 @@ pub record IsRule (r : Rule) : Type 0 where
   pub lines : AtMost 16 (IsMapLine (length r.points)) r.lines
   pub base : BeginsAtBase r.lines
   pub new_points : AtMost 8 (IsPlace (length r.points)) r.new_points
-  pub new_lines : AtMost 24 (λ l. Names (length r.points + length r.new_points) l.0 × Names (length r.points + length r.new_points) l.1) r.new_lines
+  pub new_lines : AtMost 24 (λ l. Names (length r.points + length r.new_points) l.0
+      × Names (length r.points + length r.new_points) l.1) r.new_lines
   pub area : AtMost 24 (IsPlace (length r.points)) r.area
   pub limit : AtMost 24 (IsPlace (length r.points)) r.limit
-  pub elements : AtMost 8 (λ e. (length e ≡ 3) × AllByRecursion (Names (length r.points + length r.new_points)) e) r.elements
-  pub turns : AtMost 16 (λ t. Names (length r.points) t.0 × Names (length r.points) t.1 × Names (length r.points) t.2) r.turns
+  pub elements : AtMost 8 (λ e. (length e ≡ 3)
+      × AllByRecursion (Names (length r.points + length r.new_points)) e) r.elements
+  pub turns : AtMost 16 (λ t. Names (length r.points) t.0 × Names (length r.points) t.1
+      × Names (length r.points) t.2) r.turns
   pub starts : loose_starts (length r.points) r.lines ≤ 3
 
 -- rules within the limits, as a reader gives them

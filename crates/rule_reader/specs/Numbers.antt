@@ -32,4 +32,5 @@ unfoldable pub number_of : ℕ → List ℕ → Option ℤ
 number_of greatest bytes = if nat_lt 20 (digit_count bytes) then None else do
   dec ← decimal_of bytes
   places ← places_of dec.scale
-  if nat_lt greatest (rounded (unsigned_abs dec.digits) places) then None else Some (with_sign dec.digits (rounded (unsigned_abs dec.digits) places))
+  if nat_lt greatest (rounded (unsigned_abs dec.digits) places) then None
+      else Some (with_sign dec.digits (rounded (unsigned_abs dec.digits) places))

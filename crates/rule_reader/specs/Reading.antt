@@ -84,7 +84,8 @@ variable_rest of_y (b ∷ digits) = indexed of_y (whole_of (b ∷ digits) 9999)
 
 abbrev pub variable_of : List ℕ → Fit (Bool × Option ℕ)
 variable_of [] = Unfit
-variable_of (b ∷ digits) = if b == 88 then variable_rest false digits else if b == 89 then variable_rest true digits else Unfit
+variable_of (b ∷ digits) = if b == 88 then variable_rest false digits else if b == 89
+    then variable_rest true digits else Unfit
 
 abbrev pub variable_fit : Option Tok → Fit (Bool × Option ℕ)
 variable_fit (Some (NameTok bytes)) = variable_of bytes
@@ -131,7 +132,8 @@ index_at bound st = do
 
 -- behind a variable's word: the index that it has, or the one that follows; `left` words were left at the word
 abbrev pub variable_behind : ℕ → (Bool × Option ℕ) × State → Read (Bool × ℕ)
-variable_behind left ((of_y, None), st) = index_at Mapped st >>= λ index. Ok ((of_y, index.0), index.1)
+variable_behind left ((of_y, None), st) =
+    index_at Mapped st >>= λ index. Ok ((of_y, index.0), index.1)
 variable_behind left ((of_y, Some index), st) = Ok ((of_y, index), noted Mapped index left st)
 
 unfoldable pub variable_at : State → Read (Bool × ℕ)
@@ -163,12 +165,14 @@ abbrev pub del_word : List ℕ
 del_word = codes "del"
 
 unfoldable pub del_at : State → Read Bool
-del_at st = if is_at del_word st then (name_at del_word st >>= λ d. Ok (true, d.1)) else Ok (false, st)
+del_at st = if is_at del_word st then (name_at del_word st >>= λ d. Ok (true, d.1))
+    else Ok (false, st)
 
 -- weights and `del`, in either order
 unfoldable pub marks_at : State → Read (Triple × Bool)
 marks_at st =
-    if is_at del_word st then (name_at del_word st >>= λ u. tolerance_at u.1 >>= λ tol. Ok ((tol.0, true), tol.1))
+    if is_at del_word st then (name_at del_word st >>= λ u. tolerance_at u.1 >>= λ tol. Ok
+    ((tol.0, true), tol.1))
     else if opens 123 st then (triple_at st >>= λ tol. del_at tol.1 >>= λ d. Ok ((tol.0, d.0), d.1))
     else Ok ((unit_weights, false), st)
 
@@ -225,7 +229,8 @@ unfoldable pub terms_at : ℕ → State → Read (List Term)
 terms_at zero st = Err (past_terms st)
 terms_at (suc room) st = do
   t ← term_at st
-  if opens 44 t.1 then (mark_at 44 t.1 >>= λ c. terms_at room c.1 >>= λ ts. Ok (t.0 ∷ ts.0, ts.1)) else Ok (t.0 ∷ [], t.1)
+  if opens 44 t.1 then (mark_at 44 t.1 >>= λ c. terms_at room c.1 >>= λ ts. Ok (t.0 ∷ ts.0, ts.1))
+      else Ok (t.0 ∷ [], t.1)
 
 -- the terms of a row, of which there may be none
 unfoldable pub inner_terms_at : State → Read (List Term)
@@ -244,7 +249,8 @@ any_row_at st = if opens 123 st then row_at st else Ok ([], st)
 
 -- the rows of x and y, as far as they come
 unfoldable pub rows_at : State → Read (List Term × List Term)
-rows_at st = if opens 123 st then (row_at st >>= λ x. any_row_at x.1 >>= λ y. Ok ((x.0, y.0), y.1)) else Ok (([], []), st)
+rows_at st = if opens 123 st then (row_at st >>= λ x. any_row_at x.1 >>= λ y. Ok ((x.0, y.0), y.1))
+    else Ok (([], []), st)
 
 unfoldable pub place_at : ℕ → State → Read Place
 place_at k st = do
@@ -281,4 +287,6 @@ turn_at k st = three_at Mapped st
 -- entries, as many as there is room for; k were before
 unfoldable pub entries_at : {A : Type 0} → (ℕ → State → Read A) → ℕ → ℕ → ℕ → State → Read (List A)
 entries_at entry what k zero st = if opens 40 st then Err (TooMany st.rule what) else Ok ([], st)
-entries_at entry what k (suc room) st = if opens 40 st then (entry k st >>= λ e. entries_at entry what (k + 1) room e.1 >>= λ es. Ok (e.0 ∷ es.0, es.1)) else Ok ([], st)
+entries_at entry what k (suc room) st = if opens 40 st
+    then (entry k st >>= λ e. entries_at entry what (k + 1) room e.1 >>= λ es. Ok
+    (e.0 ∷ es.0, es.1)) else Ok ([], st)

@@ -89,7 +89,9 @@ IsFront ended words = IsWhole ended words ⊎ LeadsOn ended words
 
 -- such words, or such words and the comma behind the last term that a row may have: with it a text begins if the limit of terms is left aside
 abbrev pub IsRead : ℕ → List Tok → Type 0
-IsRead ended words = IsFront ended words ⊎ ((front : List Tok) × (words ≡ front ++ MarkTok 44 ∷ []) × IsFront ended front × ((most : Limits) × IsBut 10 most × IsBegun most words))
+IsRead ended words = IsFront ended words
+    ⊎ ((front : List Tok) × (words ≡ front ++ MarkTok 44 ∷ []) × IsFront ended front
+    × ((most : Limits) × IsBut 10 most × IsBegun most words))
 
 -- ---- a word
 
@@ -106,7 +108,8 @@ pub record Misfits (words : List Tok) (at : ℕ) : Type 0 where
   pub ended : ℕ
   pub word : Tok
   pub here : Reaches words at ended word
-  pub stop : (other : Tok) → kind_of other ≡ kind_of word → (most : Limits) → IsBegun most (here.before ++ other ∷ []) → ⊥
+  pub stop : (other : Tok) → kind_of other ≡ kind_of word → (most : Limits)
+      → IsBegun most (here.before ++ other ∷ []) → ⊥
 
 -- with this number no text begins, and with another one the words are read on
 pub record WrongNumber (words : List Tok) (at : ℕ) : Type 0 where
@@ -126,7 +129,8 @@ pub record Passes (words : List Tok) (number what : ℕ) : Type 0 where
   pub here : Reaches words at ended word
   pub rule : number ≡ ended + 1
   pub stands : StandsAt what word
-  pub stop : (other : Tok) → AsPast what word other → (most : Limits) → most what ≡ standard what → IsBegun most (here.before ++ other ∷ []) → ⊥
+  pub stop : (other : Tok) → AsPast what word other → (most : Limits) → most what ≡ standard what
+      → IsBegun most (here.before ++ other ∷ []) → ⊥
   pub other : Tok
   pub alike : kind_of other ≡ kind_of word
   pub begins : (most : Limits) × IsBut what most × IsBegun most (here.before ++ other ∷ [])

@@ -18,7 +18,17 @@ use Rattle.rule_reader.specs.Reading.{Read, ◌>>=◌, judged, is_at, name_at, n
 use Rattle.rule_reader.specs.Verdict.{verdict}
 
 abbrev pub empty_parts : Parts
-empty_parts = record { quality = None; points = None; lines = None; new_points = None; new_lines = None; area = None; limit = None; elements = None; turns = None }
+empty_parts = record {
+  quality = None;
+  points = None;
+  lines = None;
+  new_points = None;
+  new_lines = None;
+  area = None;
+  limit = None;
+  elements = None;
+  turns = None;
+}
 
 abbrev pub section_of : List ℕ → Option SectionKind
 section_of name =
@@ -71,15 +81,24 @@ rule_of name parts =
 
 -- what stands behind the word of a section
 unfoldable pub content_at : Parts → SectionKind → State → Read Parts
-content_at parts kind.Quality st = quality_at st >>= λ x. Ok (record parts { quality = Some x.0 }, x.1)
-content_at parts kind.MapPoints st = entries_at map_point_at 2 0 16 st >>= λ x. Ok (record parts { points = Some x.0 }, x.1)
-content_at parts kind.MapLines st = entries_at map_line_at 3 0 16 st >>= λ x. Ok (record parts { lines = Some x.0 }, x.1)
-content_at parts kind.NewPoints st = entries_at place_at 4 0 8 st >>= λ x. Ok (record parts { new_points = Some x.0 }, x.1)
-content_at parts kind.NewLines st = entries_at pair_at 5 0 24 st >>= λ x. Ok (record parts { new_lines = Some x.0 }, x.1)
-content_at parts kind.FreeArea st = entries_at place_at 6 0 24 st >>= λ x. Ok (record parts { area = Some x.0 }, x.1)
-content_at parts kind.FreeArea2 st = entries_at place_at 7 0 24 st >>= λ x. Ok (record parts { limit = Some x.0 }, x.1)
-content_at parts kind.Elements st = entries_at element_at 8 0 8 st >>= λ x. Ok (record parts { elements = Some x.0 }, x.1)
-content_at parts kind.Orientations st = entries_at turn_at 9 0 16 st >>= λ x. Ok (record parts { turns = Some x.0 }, x.1)
+content_at parts kind.Quality st =
+    quality_at st >>= λ x. Ok (record parts { quality = Some x.0 }, x.1)
+content_at parts kind.MapPoints st =
+    entries_at map_point_at 2 0 16 st >>= λ x. Ok (record parts { points = Some x.0 }, x.1)
+content_at parts kind.MapLines st =
+    entries_at map_line_at 3 0 16 st >>= λ x. Ok (record parts { lines = Some x.0 }, x.1)
+content_at parts kind.NewPoints st =
+    entries_at place_at 4 0 8 st >>= λ x. Ok (record parts { new_points = Some x.0 }, x.1)
+content_at parts kind.NewLines st =
+    entries_at pair_at 5 0 24 st >>= λ x. Ok (record parts { new_lines = Some x.0 }, x.1)
+content_at parts kind.FreeArea st =
+    entries_at place_at 6 0 24 st >>= λ x. Ok (record parts { area = Some x.0 }, x.1)
+content_at parts kind.FreeArea2 st =
+    entries_at place_at 7 0 24 st >>= λ x. Ok (record parts { limit = Some x.0 }, x.1)
+content_at parts kind.Elements st =
+    entries_at element_at 8 0 8 st >>= λ x. Ok (record parts { elements = Some x.0 }, x.1)
+content_at parts kind.Orientations st =
+    entries_at turn_at 9 0 16 st >>= λ x. Ok (record parts { turns = Some x.0 }, x.1)
 
 unfoldable pub section_at : Parts → State → Read Parts
 section_at parts st = do
@@ -98,7 +117,8 @@ tolfak_word = codes "tolfak"
 -- sections up to the end of the rule, at most so many
 unfoldable pub sections_at : ℕ → Parts → State → Read Parts
 sections_at zero parts st = Ok (parts, st)
-sections_at (suc room) parts st = if is_at endrule_word st then Ok (parts, st) else (section_at parts st >>= λ p. sections_at room p.0 p.1)
+sections_at (suc room) parts st = if is_at endrule_word st then Ok (parts, st)
+    else (section_at parts st >>= λ p. sections_at room p.0 p.1)
 
 unfoldable pub name_of_rule_at : State → Read (List ℕ)
 name_of_rule_at st = do
@@ -116,15 +136,20 @@ rule_at st = do
   name ← name_of_rule_at a.1
   parts ← sections_at 9 empty_parts name.1
   b ← name_at endrule_word parts.1
-  judged_rule (verdict b.1.rule b.1.uses (rule_of name.0 parts.0) (length parts.1.left)) (rule_of name.0 parts.0) b.1
+  judged_rule (verdict b.1.rule b.1.uses (rule_of name.0 parts.0) (length parts.1.left))
+      (rule_of name.0 parts.0) b.1
 
 unfoldable pub tolfak_at : State → Read (Unit {0})
-tolfak_at st = if is_at tolfak_word st then (name_at tolfak_word st >>= λ a. number_at 160000 a.1 >>= λ n. Ok (tt, n.1)) else Ok (tt, st)
+tolfak_at st = if is_at tolfak_word st
+    then (name_at tolfak_word st >>= λ a. number_at 160000 a.1 >>= λ n. Ok (tt, n.1))
+    else Ok (tt, st)
 
 -- rules, as many as there is room for; so many were before
 unfoldable pub rules_at : ℕ → ℕ → State → Read (List Rule)
 rules_at before zero st = if is_at rule_word st then Err (TooMany (before + 1) 1) else Ok ([], st)
-rules_at before (suc room) st = if is_at rule_word st then (rule_at (begun (before + 1) st) >>= λ r. rules_at (before + 1) room r.1 >>= λ rs. Ok (r.0 ∷ rs.0, rs.1)) else Ok ([], st)
+rules_at before (suc room) st = if is_at rule_word st
+    then (rule_at (begun (before + 1) st) >>= λ r. rules_at (before + 1) room r.1 >>= λ rs. Ok
+    (r.0 ∷ rs.0, rs.1)) else Ok ([], st)
 
 -- a whole text
 unfoldable pub file_at : State → Read (List Rule)
@@ -142,7 +167,8 @@ refusal_of words stops.Memory = refusals.Memory
 refusal_of words (stops.Fault (Syntax left)) = refusals.Syntax (word_number words left)
 refusal_of words (stops.Fault (Number left)) = refusals.Number (word_number words left)
 refusal_of words (stops.Fault (TooMany rule what)) = refusals.TooMany rule what
-refusal_of words (stops.Fault (BadIndex rule left)) = refusals.BadIndex rule (word_number words left)
+refusal_of words (stops.Fault (BadIndex rule left)) =
+    refusals.BadIndex rule (word_number words left)
 refusal_of words (stops.Fault (TooLoose rule)) = refusals.TooLoose rule
 
 -- what reading a list of words gives
@@ -153,4 +179,5 @@ reading words = file_at (at_start words)
 abbrev pub IsReading : Result (List Rule) RuleRefusal → List Tok → Type 0
 IsReading (Ok rules) words = (st : State) × (reading words ≡ Ok (rules, st))
 IsReading (Err refusals.Memory) words = Unit {0}
-IsReading (Err refusal) words = (fault : Fault) × (reading words ≡ Err fault) × (refusal ≡ refusal_of (length words) (stops.Fault fault))
+IsReading (Err refusal) words = (fault : Fault) × (reading words ≡ Err fault)
+    × (refusal ≡ refusal_of (length words) (stops.Fault fault))

@@ -49,10 +49,12 @@ unfoldable pub loose_starts : ℕ → List MapLine → ℕ
 loose_starts points lines = own_below (labels points lines) (points + 1) - 2
 
 abbrev pub graph_verdict : ℕ → Rule → Option Fault
-graph_verdict number rule = if nat_lt 3 (loose_starts (length rule.points) rule.lines) then Some (TooLoose number) else None
+graph_verdict number rule = if nat_lt 3 (loose_starts (length rule.points) rule.lines)
+    then Some (TooLoose number) else None
 
 abbrev pub lines_verdict : ℕ → Rule → ℕ → Option Fault
-lines_verdict number rule left = if length rule.lines == 0 then Some (BadIndex number left) else graph_verdict number rule
+lines_verdict number rule left = if length rule.lines == 0 then Some (BadIndex number left)
+    else graph_verdict number rule
 
 abbrev pub index_verdict : ℕ → Rule → ℕ → Option Use → Option Fault
 index_verdict number rule left (Some index) = Some (BadIndex number index.left)
@@ -60,7 +62,9 @@ index_verdict number rule left None = lines_verdict number rule left
 
 -- the fault of a rule that ends where so many words are left
 unfoldable pub verdict : ℕ → List Use → Rule → ℕ → Option Fault
-verdict number uses rule left = index_verdict number rule left (find (is_bad (length rule.points) (length rule.new_points)) uses)
+verdict number uses rule left =
+    index_verdict number rule left
+    (find (is_bad (length rule.points) (length rule.new_points)) uses)
 
 -- what a rule's end tells: no fault, or this one, unless memory ran out
 abbrev pub Checks : Result (Unit {0}) Stop → Option Fault → Type 0

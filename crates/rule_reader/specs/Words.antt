@@ -56,7 +56,11 @@ behind st = record { left = rest st.left; uses = st.uses; rule = st.rule }
 
 -- where so many words were left, this index was used
 abbrev pub noted : Bound → ℕ → ℕ → State → State
-noted bound index left st = record { left = st.left; uses = st.uses ++ record { left = left; index = index; bound = bound } ∷ []; rule = st.rule }
+noted bound index left st = record {
+  left = st.left;
+  uses = st.uses ++ record { left = left; index = index; bound = bound } ∷ [];
+  rule = st.rule;
+}
 
 -- at the beginning of the rule of this number
 abbrev pub begun : ℕ → State → State
@@ -66,7 +70,8 @@ begun rule st = record { left = st.left; uses = []; rule = rule }
 abbrev pub tok_from : Kind → List ℕ → Tok
 tok_from kinds.Mark [] = BadTok
 tok_from kinds.Mark (b ∷ bytes) = MarkTok b
-tok_from kinds.Text bytes = if nat_lt (length bytes) 2 then BadTok else TextTok (take (length bytes - 2) (drop 1 bytes))
+tok_from kinds.Text bytes = if nat_lt (length bytes) 2 then BadTok
+    else TextTok (take (length bytes - 2) (drop 1 bytes))
 tok_from kinds.Number bytes = NumberTok bytes
 tok_from kinds.Name bytes = NameTok bytes
 tok_from kinds.Plain bytes = BadTok

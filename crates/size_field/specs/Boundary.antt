@@ -21,7 +21,8 @@ IsPieceOf segments p = IsNumberTo (length segments) p.segment
 
 -- the segment that the piece was cut from
 abbrev pub segment_of : List Segment → Piece → Segment
-segment_of segments p = slice_index_or segments (p.segment - 1) (record { left = 0; right = 0; p = 0; q = 0; bc = 0; maxh = None })
+segment_of segments p = slice_index_or segments (p.segment - 1)
+    (record { left = 0; right = 0; p = 0; q = 0; bc = 0; maxh = None })
 
 -- the piece, from its first point to its last
 abbrev pub piece_edge : Piece → Edge
@@ -38,4 +39,5 @@ turned_to domain s e = with_edge (s.left == domain) e (with_edge (s.right == dom
 
 -- each piece with the domain on its left as it stands, each with the domain on its right reversed
 abbrev pub piece_boundary : ℕ → List Segment → List Piece → List Edge
-piece_boundary domain segments pieces = flat_map (λ p. turned_to domain (segment_of segments p) (piece_edge p)) pieces
+piece_boundary domain segments pieces =
+    flat_map (λ p. turned_to domain (segment_of segments p) (piece_edge p)) pieces

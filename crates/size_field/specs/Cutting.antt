@@ -83,31 +83,42 @@ greatest_in domains greatest domain = at_most greatest (size_of_domain domains d
 
 -- the sizes of a domain before cutting: the sources are those of the file's points
 abbrev pub field_before : PlanarMap → ℕ → ℕ → ℕ → SizeField
-field_before g greatest grading domain = record { greatest = greatest_in g.domains greatest domain; grading = grading; sources = g.flagged }
+field_before g greatest grading domain =
+    record {
+      greatest = greatest_in g.domains greatest domain;
+      grading = grading;
+      sources = g.flagged;
+    }
 
 -- how long a piece may be whose middle is m and on whose side this domain lies; the outside, 0, allows any length
 abbrev pub side_bound : PlanarMap → ℕ → ℕ → ℕ → Point → ℕ
-side_bound g greatest grading domain m = if domain == 0 then LONGEST else size_at (field_before g greatest grading domain) m
+side_bound g greatest grading domain m = if domain == 0 then LONGEST
+    else size_at (field_before g greatest grading domain) m
 
 -- how long a piece of a segment may be whose middle is m: the least of the segment's own greatest length, where it has one,
 -- and of the sizes there of the domains on its two sides
 abbrev pub bound : PlanarMap → ℕ → ℕ → Segment → Point → ℕ
-bound g greatest grading s m = at_most (min (side_bound g greatest grading s.left m) (side_bound g greatest grading s.right m)) s.maxh
+bound g greatest grading s m = at_most
+    (min (side_bound g greatest grading s.left m) (side_bound g greatest grading s.right m)) s.maxh
 
 -- the pieces of a segment
 abbrev pub parts_of : PlanarMap → ℕ → ℕ → Segment → List Edge
-parts_of g greatest grading s = parts (bound g greatest grading s) MOST_HALVINGS (point_at g.points s.p) (point_at g.points s.q)
+parts_of g greatest grading s =
+    parts (bound g greatest grading s) MOST_HALVINGS (point_at g.points s.p) (point_at g.points s.q)
 
 -- the segment at a position
 abbrev pub segment_at : PlanarMap → ℕ → Segment
-segment_at g index = slice_index_or g.segments index (record { left = 0; right = 0; p = 0; q = 0; bc = 0; maxh = None })
+segment_at g index = slice_index_or g.segments index
+    (record { left = 0; right = 0; p = 0; q = 0; bc = 0; maxh = None })
 
 -- without regard to sources: how long a piece may be on whose side a domain lies, and how long the pieces of a segment
 abbrev pub side_most : List Domain → ℕ → ℕ → ℕ
-side_most domains greatest domain = if domain == 0 then LONGEST else greatest_in domains greatest domain
+side_most domains greatest domain = if domain == 0 then LONGEST
+    else greatest_in domains greatest domain
 
 abbrev pub most_of : List Domain → ℕ → Segment → ℕ
-most_of domains greatest s = at_most (min (side_most domains greatest s.left) (side_most domains greatest s.right)) s.maxh
+most_of domains greatest s = at_most
+    (min (side_most domains greatest s.left) (side_most domains greatest s.right)) s.maxh
 
 -- an edge as a piece of segment n
 abbrev pub piece_of : ℕ → Edge → Piece

@@ -26,4 +26,5 @@ pub record AreUntangled (es : List Edge) : Type 0 where
 
 -- each edge of the one list and each of the other are one, or one is the other reversed, or they don't tangle
 abbrev pub AreOneOrApart : List Edge → List Edge → Type 0
-AreOneOrApart es fs = AllByRecursion (λ e. AllByRecursion (λ f. (f ≡ e) ⊎ ((f ≡ back e) ⊎ ¬ (DoEdgesTangle e f))) fs) es
+AreOneOrApart es fs = AllByRecursion
+    (λ e. AllByRecursion (λ f. (f ≡ e) ⊎ ((f ≡ back e) ⊎ ¬ (DoEdgesTangle e f))) fs) es

@@ -29,7 +29,8 @@ size_from grading q s = s.h + grading * reach q s.at / GRADING_UNIT
 
 -- the least of a size and of those that the sources leave at q
 abbrev pub least_size : ℕ → Point → ℕ → List Source → ℕ
-least_size grading q greatest sources = fold (λ least s. min least (size_from grading q s)) greatest sources
+least_size grading q greatest sources =
+    fold (λ least s. min least (size_from grading q s)) greatest sources
 
 -- the size at q: the least of the greatest size and of those that the sources leave
 abbrev pub size_at : SizeField → Point → ℕ

@@ -34,5 +34,7 @@ IsSound (Some b) = IsSoundBranch b.value
 -- the new sources leave the same least sizes as the old ones and s, whatever the point, the grading and the greatest size;
 -- and a box and a least size that hold the old ones and s hold the new ones
 pub record IsAdded (s : Source) (old new : List Source) : Type 0 where
-  pub alike : (grading : ℕ) (q : Point) (greatest : ℕ) → least_size grading q greatest new ≡ least_size grading q greatest (s ∷ old)
-  pub held : (b : Bounds) (least : ℕ) → AllByRecursion (IsHeldBy b least) (s ∷ old) → AllByRecursion (IsHeldBy b least) new
+  pub alike : (grading : ℕ) (q : Point) (greatest : ℕ)
+      → least_size grading q greatest new ≡ least_size grading q greatest (s ∷ old)
+  pub held : (b : Bounds) (least : ℕ) → AllByRecursion (IsHeldBy b least) (s ∷ old)
+      → AllByRecursion (IsHeldBy b least) new

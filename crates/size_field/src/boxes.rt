@@ -13,7 +13,8 @@ pub fn nearest(bounds: &Bounds, to: &Point) -> Point
     requires bounds { IsBoxOnGrid bounds.now }
     requires to { IsOnGrid to.now }
     ensures on_grid { IsOnGrid result }
-    ensures nearest { (p : AnyPoint) → IsInBounds bounds.now p → reach to.now result ≤ reach to.now p }
+    ensures nearest { (p : AnyPoint) → IsInBounds bounds.now p →
+        reach to.now result ≤ reach to.now p }
 {
     Point {
         x: to.x.max(bounds.lo.x).min(bounds.hi.x),

@@ -59,7 +59,8 @@ pub(super) struct Bound<'a> {
 fn cut_at(bound: &Bound<'_>, edge: &Edge) -> Option<Point>
     requires edge { IsEdgeOnGrid edge.now }
     requires most { bound.now.most ≤ bound.now.sizes.now.greatest }
-    ensures place { result ≡ cut_at (bound_by bound.now.sizes.now bound.now.most) edge.now.a edge.now.b }
+    ensures place { result ≡ cut_at
+        (bound_by bound.now.sizes.now bound.now.most) edge.now.a edge.now.b }
     ensures on_grid { IfSome result IsOnGrid }
 {
     let middle = middle(&edge.a, &edge.b)?;
@@ -74,7 +75,8 @@ fn cut_at(bound: &Bound<'_>, edge: &Edge) -> Option<Point>
 fn next_cut(bound: &Bound<'_>, edge: &Edge, halvings: u32) -> Option<Point>
     requires edge { IsEdgeOnGrid edge.now }
     requires most { bound.now.most ≤ bound.now.sizes.now.greatest }
-    ensures place { result ≡ next_cut (bound_by bound.now.sizes.now bound.now.most) halvings edge.now.a edge.now.b }
+    ensures place { result ≡ next_cut
+        (bound_by bound.now.sizes.now bound.now.most) halvings edge.now.a edge.now.b }
     ensures on_grid { IfSome result IsOnGrid }
     ensures may { IfSome result (λ _. 0 < halvings) }
 {
@@ -95,7 +97,9 @@ pub(super) fn push_parts(
 ) -> Result<(), OutOfMemory>
     requires edge { IsEdgeOnGrid edge.now }
     requires most { bound.now.most ≤ bound.now.sizes.now.greatest }
-    ensures { OnOk result (pieces.new.items ≡ pieces.old.items ++ map (piece_of segment) (parts (bound_by bound.now.sizes.now bound.now.most) halvings edge.now.a edge.now.b)) }
+    ensures { OnOk result (pieces.new.items ≡ pieces.old.items
+        ++ map (piece_of segment)
+        (parts (bound_by bound.now.sizes.now bound.now.most) halvings edge.now.a edge.now.b)) }
 {
     match next_cut(bound, edge, halvings) {
         None => pieces.push(Piece {
@@ -198,7 +202,9 @@ fn push_segment(
     requires most { sizes.now.greatest ≡ LONGEST }
     requires sources { sizes.now.sources ≡ g.now.flagged }
     requires index { index < length g.now.segments }
-    ensures { OnOk result (pieces.new.items ≡ pieces.old.items ++ map (piece_of (index + 1)) (parts_of g.now greatest sizes.now.grading (segment_at g.now index))) }
+    ensures { OnOk result (pieces.new.items ≡ pieces.old.items
+        ++ map (piece_of (index + 1))
+        (parts_of g.now greatest sizes.now.grading (segment_at g.now index))) }
 {
     let segment = &g.segments()[index];
     let bound = Bound {

@@ -20,7 +20,8 @@ pub fn sizes_of_points(
     grading: u32,
 ) -> Result<Sizes, OutOfMemory>
     requires { AreLimits greatest grading }
-    ensures { IfOk result (λ sizes. sizes ≡ record { greatest = greatest; grading = grading; sources = g.now.flagged }) }
+    ensures { IfOk result (λ sizes. sizes
+        ≡ record { greatest = greatest; grading = grading; sources = g.now.flagged }) }
 {
     let mut sizes = Sizes::new(alloc, greatest, grading);
     for source in g.flagged() {
@@ -32,7 +33,8 @@ pub fn sizes_of_points(
 /// Adds both ends of a piece as sources, with the piece's longer extent.
 fn add_ends(sizes: &mut Sizes, piece: &Piece) -> Result<(), OutOfMemory>
     requires { IsPart (piece_edge piece.now) }
-    ensures { OnOk result (sizes.new ≡ record sizes.old { sources = sizes.old.sources ++ piece_sources piece.now }) }
+    ensures { OnOk result (sizes.new
+        ≡ record sizes.old { sources = sizes.old.sources ++ piece_sources piece.now }) }
 {
     let h = extent(&piece.a, &piece.b);
     sizes.add(Source { at: piece.a, h })?;
@@ -49,7 +51,11 @@ fn add_piece(
 ) -> Result<(), OutOfMemory>
     requires of_segment { IsPieceOf segments.now piece.now }
     requires part { IsPart (piece_edge piece.now) }
-    ensures { OnOk result (sizes.new ≡ record sizes.old { sources = sizes.old.sources ++ sources_beside domain segments.now piece.now }) }
+    ensures { OnOk result (sizes.new
+        ≡ record sizes.old {
+          sources = sizes.old.sources
+              ++ sources_beside domain segments.now piece.now;
+        }) }
 {
     let segment = &segments[piece.segment - 1];
     if segment.left == domain || segment.right == domain {

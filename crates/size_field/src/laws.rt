@@ -32,9 +32,13 @@ pub fn law_middle()
 /// The pieces of an edge have its winding number at every rational point, have two different ends, and
 /// lie on the grid. Put in its place in a list of edges no two of which tangle, no two tangle.
 pub fn law_parts()
-    ensures winds { (bound : Point → ℕ) (n : ℕ) (a b : Point) (q : RatPoint) → IsRational q → IsPart (edge a b) → wind q (parts bound n a b) ≡ wind q (edge a b ∷ []) }
-    ensures parts { (bound : Point → ℕ) (n : ℕ) (a b : Point) → IsPart (edge a b) → AllByRecursion IsPart (parts bound n a b) }
-    ensures untangled { (bound : Point → ℕ) (n : ℕ) (a b : Point) (before after : List Edge) → IsPart (edge a b) → AreUntangled (before ++ edge a b ∷ after) → AreUntangled (before ++ (parts bound n a b ++ after)) }
+    ensures winds { (bound : Point → ℕ) (n : ℕ) (a b : Point) (q : RatPoint) → IsRational q →
+        IsPart (edge a b) → wind q (parts bound n a b) ≡ wind q (edge a b ∷ []) }
+    ensures parts { (bound : Point → ℕ) (n : ℕ) (a b : Point) → IsPart (edge a b) →
+        AllByRecursion IsPart (parts bound n a b) }
+    ensures untangled { (bound : Point → ℕ) (n : ℕ) (a b : Point) (before after : List Edge) →
+        IsPart (edge a b) → AreUntangled (before ++ edge a b ∷ after) →
+        AreUntangled (before ++ (parts bound n a b ++ after)) }
 {}
 
 /// The pieces of an accepted geometry bound each domain as its segments do: they have the same winding
@@ -43,13 +47,24 @@ pub fn law_parts()
 /// tangle. The pieces round a domain are a region: closed, and winding 0 times or once round each point
 /// off them; and no point off those of two domains is in both.
 pub fn law_boundary()
-    ensures winds { (g : PlanarMap) (greatest grading d : ℕ) (q : RatPoint) → IsGeometry g → IsRational q → wind q (piece_boundary d g.segments (pieces_of g greatest grading)) ≡ wind q (boundary g.points d g.segments) }
-    ensures one { (g : PlanarMap) (greatest grading d : ℕ) → IsGeometry g → AreUntangled (piece_boundary d g.segments (pieces_of g greatest grading)) }
-    ensures two { (g : PlanarMap) (greatest grading c d : ℕ) → IsGeometry g → AreOneOrApart (piece_boundary c g.segments (pieces_of g greatest grading)) (piece_boundary d g.segments (pieces_of g greatest grading)) }
-    ensures pieces { (g : PlanarMap) (greatest grading : ℕ) → IsGeometry g → AreUntangled (map piece_edge (pieces_of g greatest grading)) }
-    ensures of_segments { (g : PlanarMap) (greatest grading : ℕ) → IsGeometry g → All (IsPiece (length g.segments)) (pieces_of g greatest grading) }
-    ensures region { (g : PlanarMap) (greatest grading d : ℕ) → IsGeometry g → 0 < d → IsRegion (piece_boundary d g.segments (pieces_of g greatest grading)) }
-    ensures separate { (g : PlanarMap) (greatest grading c d : ℕ) → IsGeometry g → 0 < c → c < d → (q : RatPoint) → IsRational q →
-        IsOff q (piece_boundary c g.segments (pieces_of g greatest grading)) → IsOff q (piece_boundary d g.segments (pieces_of g greatest grading)) →
-        pos 1 ≤ℤ wind q (piece_boundary c g.segments (pieces_of g greatest grading)) → ¬ (pos 1 ≤ℤ wind q (piece_boundary d g.segments (pieces_of g greatest grading))) }
+    ensures winds { (g : PlanarMap) (greatest grading d : ℕ) (q : RatPoint) → IsGeometry g →
+        IsRational q → wind q (piece_boundary d g.segments (pieces_of g greatest grading))
+        ≡ wind q (boundary g.points d g.segments) }
+    ensures one { (g : PlanarMap) (greatest grading d : ℕ) → IsGeometry g →
+        AreUntangled (piece_boundary d g.segments (pieces_of g greatest grading)) }
+    ensures two { (g : PlanarMap) (greatest grading c d : ℕ) → IsGeometry g →
+        AreOneOrApart (piece_boundary c g.segments (pieces_of g greatest grading))
+        (piece_boundary d g.segments (pieces_of g greatest grading)) }
+    ensures pieces { (g : PlanarMap) (greatest grading : ℕ) → IsGeometry g →
+        AreUntangled (map piece_edge (pieces_of g greatest grading)) }
+    ensures of_segments { (g : PlanarMap) (greatest grading : ℕ) → IsGeometry g →
+        All (IsPiece (length g.segments)) (pieces_of g greatest grading) }
+    ensures region { (g : PlanarMap) (greatest grading d : ℕ) → IsGeometry g → 0 < d →
+        IsRegion (piece_boundary d g.segments (pieces_of g greatest grading)) }
+    ensures separate { (g : PlanarMap) (greatest grading c d : ℕ) → IsGeometry g → 0 < c → c < d →
+        (q : RatPoint) → IsRational q →
+        IsOff q (piece_boundary c g.segments (pieces_of g greatest grading)) →
+        IsOff q (piece_boundary d g.segments (pieces_of g greatest grading)) →
+        pos 1 ≤ℤ wind q (piece_boundary c g.segments (pieces_of g greatest grading)) →
+        ¬ (pos 1 ≤ℤ wind q (piece_boundary d g.segments (pieces_of g greatest grading))) }
 {}

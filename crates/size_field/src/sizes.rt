@@ -35,7 +35,8 @@ impl Model for Sizes {
 
     ghost view = { λ a. record { greatest = a.greatest; grading = a.grading; sources = a.sources.items } };
 
-    ghost invariant = { λ a. AreKept (record { greatest = a.greatest; grading = a.grading; sources = a.sources.items }) a.tree };
+    ghost invariant = { λ a. AreKept
+        (record { greatest = a.greatest; grading = a.grading; sources = a.sources.items }) a.tree };
 }
 
 impl Sizes {
@@ -57,7 +58,8 @@ impl Sizes {
     /// Adds a source at the end of the list.
     pub fn add(&mut self, source: Source) -> Result<(), OutOfMemory>
         requires { IsSource source }
-        ensures added { OnOk result (self.new ≡ record self.old { sources = self.old.sources ++ source ∷ [] }) }
+        ensures added { OnOk result
+            (self.new ≡ record self.old { sources = self.old.sources ++ source ∷ [] }) }
         ensures same { OnErr result (self.new ≡ self.old) }
     {
         self.sources.reserve(1)?;
@@ -105,7 +107,10 @@ fn insert_below(
     source: Source,
 ) -> Result<(), OutOfMemory>
     requires { IsSource source }
-    ensures added { OnOk result ((grading : ℕ) (q : AnyPoint) → least_size grading q greatest tree.new ≡ least_size grading q greatest (source ∷ tree.old)) }
+    ensures added { OnOk result
+        ((grading : ℕ) (q : AnyPoint) →
+        least_size grading q greatest tree.new
+        ≡ least_size grading q greatest (source ∷ tree.old)) }
     ensures same { OnErr result (tree.new ≡ tree.old) }
 {
     if source.h < greatest {

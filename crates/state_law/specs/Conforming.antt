@@ -25,7 +25,8 @@ pub record IsBoundary (boundary others : List Edge) : Type 0 where
 
 -- the boundary winds 0 times or once round each point off the further edges
 abbrev pub WindsOnce : List Edge → List Edge → Type 0
-WindsOnce boundary others = (q : RatPoint) → IsRational q → IsOff q others → IsNoneOrOne (wind q boundary)
+WindsOnce boundary others = (q : RatPoint) → IsRational q → IsOff q others
+    → IsNoneOrOne (wind q boundary)
 
 -- v is a point of the state: an end of a front line or a corner of an element
 abbrev pub IsUsed : List Edge → List (List Point) → Point → Type 0
@@ -42,8 +43,10 @@ pub record HasNoHanging (front : List Edge) (elements : List (List Point)) : Typ
 
 -- what two domains have: no point is in both, and their pieces don't tangle
 pub record AreNeighbours (boundary next_boundary others : List Edge) : Type 0 where
-  pub apart : (q : RatPoint) → IsRational q → IsOff q others → pos 1 ≤ℤ wind q boundary → pos 1 ≤ℤ wind q next_boundary → ⊥
-  pub pieces : AllByRecursion (λ f. AllByRecursion (λ g. (g ≡ f) ⊎ ((g ≡ back f) ⊎ ¬ (DoEdgesTangle f g))) next_boundary) boundary
+  pub apart : (q : RatPoint) → IsRational q → IsOff q others → pos 1 ≤ℤ wind q boundary
+      → pos 1 ≤ℤ wind q next_boundary → ⊥
+  pub pieces : AllByRecursion (λ f. AllByRecursion
+      (λ g. (g ≡ f) ⊎ ((g ≡ back f) ⊎ ¬ (DoEdgesTangle f g))) next_boundary) boundary
 
 -- all of a domain's state: what a run keeps, no hanging point, and each end of a piece still used
 pub record IsSound (boundary others front : List Edge) (elements : List (List Point)) : Type 0 where

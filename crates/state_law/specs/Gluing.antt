@@ -35,7 +35,8 @@ glue front corners = glue_sides front (sides corners)
 -- 4. the line is no side of the element reversed
 pub record IsClearOf (corners : List Point) (e : Edge) : Type 0 where
   pub apart : IsApart e.a e.b corners
-  pub ends_off_sides : AllByRecursion (λ s. ¬ (IsOnOpen e.a s.a s.b) × ¬ (IsOnOpen e.b s.a s.b)) (sides corners)
+  pub ends_off_sides : AllByRecursion (λ s. ¬ (IsOnOpen e.a s.a s.b) × ¬ (IsOnOpen e.b s.a s.b))
+      (sides corners)
   pub corners_off_line : AllByRecursion (λ c. ¬ (IsOnOpen c e.a e.b)) corners
   pub not_backwards : AllByRecursion (λ s. ¬ (e ≡ back s)) (sides corners)
 

@@ -36,4 +36,5 @@ pub record IsKept (boundary others front : List Edge) (elements : List (List Poi
   pub untangled : AreFreeOf DoEdgesTangle front
   pub convex : AllByRecursion IsStrictlyConvex elements
   pub chain : (x : Edge) → net x boundary ≡ net x front +ℤ net x (all_sides elements)
-  pub single : (q : RatPoint) → IsRational q → IsOffState others front elements q → IsNoneOrOne (wind q front)
+  pub single : (q : RatPoint) → IsRational q → IsOffState others front elements q
+      → IsNoneOrOne (wind q front)

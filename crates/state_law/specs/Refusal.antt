@@ -52,24 +52,40 @@ pub record IsSplit (elements before : List (List Point)) (cs : List Point) (afte
 
 -- why the attempt is no candidate: of the front lines that hinder it one is among the witnesses
 pub data HasReason (points : List Point) (front witnesses : List Edge) (t : Attempt) : Type 0 where
-  place_taken : (p : Point) → IsCorner p t.made → IsCorner p points → HasReason points front witnesses t
-  not_turned : (before : List (List Point)) (cs : List Point) (after : List (List Point)) → IsSplit t.elements before cs after → ¬ (IsStrictlyConvex cs) → HasReason points front witnesses t
-  line_in_zone : (w : Edge) → IsIn w witnesses → IsIn w front → ¬ (IsIn w t.lines) → ¬ (IsApart w.a w.b t.zone) → HasReason points front witnesses t
-  line_hinders : (before : List (List Point)) (cs : List Point) (after : List (List Point)) → IsSplit t.elements before cs after →
-      (w : Edge) → (IsIn w front → IsIn w witnesses) → pos 1 ≤ℤ (net w front -ℤ net w (all_sides before)) → ¬ (IsClearOf cs w) → HasReason points front witnesses t
-  outside_front : (before : List (List Point)) (cs : List Point) (after : List (List Point)) → IsSplit t.elements before cs after → AllByRecursion IsStrictlyConvex before → IsStrictlyConvex cs →
-      (q : RatPoint) → IsRational q → IsInPolygon q cs → IsOff q (glue_all front before) → wind q (glue_all front before) ≤ℤ pos 0 → HasReason points front witnesses t
-  too_large : (before : List (List Point)) (cs : List Point) (after : List (List Point)) → IsSplit t.elements before cs after → shoelace (glue_all front before) <ℤ shoelace (sides cs) → HasReason points front witnesses t
+  place_taken : (p : Point) → IsCorner p t.made → IsCorner p points
+      → HasReason points front witnesses t
+  not_turned : (before : List (List Point)) (cs : List Point) (after : List (List Point))
+      → IsSplit t.elements before cs after → ¬ (IsStrictlyConvex cs)
+      → HasReason points front witnesses t
+  line_in_zone : (w : Edge) → IsIn w witnesses → IsIn w front → ¬ (IsIn w t.lines)
+      → ¬ (IsApart w.a w.b t.zone) → HasReason points front witnesses t
+  line_hinders : (before : List (List Point)) (cs : List Point) (after : List (List Point))
+      → IsSplit t.elements before cs after →
+      (w : Edge) → (IsIn w front → IsIn w witnesses)
+      → pos 1 ≤ℤ (net w front -ℤ net w (all_sides before)) → ¬ (IsClearOf cs w)
+      → HasReason points front witnesses t
+  outside_front : (before : List (List Point)) (cs : List Point) (after : List (List Point))
+      → IsSplit t.elements before cs after → AllByRecursion IsStrictlyConvex before
+      → IsStrictlyConvex cs →
+      (q : RatPoint) → IsRational q → IsInPolygon q cs → IsOff q (glue_all front before)
+      → wind q (glue_all front before) ≤ℤ pos 0 → HasReason points front witnesses t
+  too_large : (before : List (List Point)) (cs : List Point) (after : List (List Point))
+      → IsSplit t.elements before cs after → shoelace (glue_all front before) <ℤ shoelace (sides cs)
+      → HasReason points front witnesses t
 
 -- the pair of base line and class is refused: each allowed attempt that fits has a reason
 abbrev pub IsRefused : (Attempt → Type 0) → List Point → List Edge → List Edge → Type 0
-IsRefused Allowed points front witnesses = (t : Attempt) → Allowed t → DoesFit front t → HasReason points front witnesses t
+IsRefused Allowed points front witnesses = (t : Attempt) → Allowed t → DoesFit front t
+    → HasReason points front witnesses t
 
 -- what all allowed attempts have: mapped points are near the base line, mapped lines join mapped points, corners are mapped or made
 pub record AreNear (Allowed : Attempt → Type 0) (Near : Point → Type 0) : Type 0 where
   pub mapped_near : (t : Attempt) → Allowed t → AllByRecursion Near t.mapped
-  pub lines_join : (t : Attempt) → Allowed t → AllByRecursion (λ e. IsCorner e.a t.mapped × IsCorner e.b t.mapped) t.lines
-  pub corners_known : (t : Attempt) → Allowed t → AllByRecursion (λ cs. AllByRecursion (λ c. IsCorner c t.mapped ⊎ IsCorner c t.made) cs) t.elements
+  pub lines_join : (t : Attempt) → Allowed t
+      → AllByRecursion (λ e. IsCorner e.a t.mapped × IsCorner e.b t.mapped) t.lines
+  pub corners_known : (t : Attempt) → Allowed t
+      → AllByRecursion (λ cs. AllByRecursion
+      (λ c. IsCorner c t.mapped ⊎ IsCorner c t.made) cs) t.elements
 
 -- a joined line that opens no new attempt: an end that is near was a front point before, and not both ends are near
 pub record IsHarmless (Near : Point → Type 0) (front : List Edge) (e : Edge) : Type 0 where
@@ -93,5 +109,6 @@ pub record IsStep (Allowed : Attempt → Type 0) (Near : Point → Type 0) (poin
   pub near : AreNear Allowed Near
   pub is_front : IsFront front
   pub glued : MayAllBeGlued elements front
-  pub listed : AllByRecursion (λ e. IsCorner e.a (points ++ more) × IsCorner e.b (points ++ more)) (glue_all front elements)
+  pub listed : AllByRecursion (λ e. IsCorner e.a (points ++ more) × IsCorner e.b (points ++ more))
+      (glue_all front elements)
   pub untouched : IsUntouched Near front (glue_all front elements) witnesses

@@ -33,11 +33,13 @@ pub record IsSettled (front : List Edge) (p : Point) : Type 0 where
 
 -- each place of the list is a front point, or settled
 abbrev pub AreFrontOrSettled : List Edge → List Point → Type 0
-AreFrontOrSettled front points = AllByRecursion (λ p. IsFrontPoint front p ⊎ IsSettled front p) points
+AreFrontOrSettled front points =
+    AllByRecursion (λ p. IsFrontPoint front p ⊎ IsSettled front p) points
 
 -- each point of the closed elements is on a front line, or the front winds 0 times round it
 abbrev pub AreSpent : List Edge → List (List Point) → Type 0
-AreSpent front elements = (ds : List Point) → IsElement ds elements → (q : RatPoint) → IsRational q → IsInClosure q ds → IsOff q front → wind q front ≡ pos 0
+AreSpent front elements = (ds : List Point) → IsElement ds elements → (q : RatPoint) → IsRational q
+    → IsInClosure q ds → IsOff q front → wind q front ≡ pos 0
 
 -- what a front and the glued elements have, whatever the boundary: the front is a region, the elements' ground is spent, and no point hangs
 pub record IsHeld (front : List Edge) (elements : List (List Point)) : Type 0 where

@@ -42,7 +42,8 @@ does_join line s = nat_eq line.1 s.0 && nat_eq line.2 s.1
 -- a side that is a front line leaves, any other joins reversed with the next number
 abbrev pub glue_line : List (ℕ × ℕ × ℕ) → ℕ → ℕ × ℕ → List (ℕ × ℕ × ℕ)
 glue_line [] next s = (next, s.1, s.0) ∷ []
-glue_line (line ∷ front) next s = elim (does_join line s) [ true ↦ front | false ↦ line ∷ glue_line front next s ]
+glue_line (line ∷ front) next s =
+    elim (does_join line s) [ true ↦ front | false ↦ line ∷ glue_line front next s ]
 
 abbrev pub next_after : List (ℕ × ℕ × ℕ) → ℕ → ℕ × ℕ → ℕ
 next_after front next s = cond (list_any (λ line. does_join line s) front) next (next + 1)
@@ -54,7 +55,8 @@ glue_lines front next (s ∷ ss) = glue_lines (glue_line front next s) (next_aft
 
 abbrev pub next_after_all : List (ℕ × ℕ × ℕ) → ℕ → List (ℕ × ℕ) → ℕ
 next_after_all front next [] = next
-next_after_all front next (s ∷ ss) = next_after_all (glue_line front next s) (next_after front next s) ss
+next_after_all front next (s ∷ ss) =
+    next_after_all (glue_line front next s) (next_after front next s) ss
 
 -- the state after the element is glued
 abbrev pub glued : State → List ℕ → State
@@ -72,9 +74,11 @@ IsListed n k = (1 ≤ k) × (k ≤ n)
 -- the points are different, and the lines join listed points
 pub record IsNumbered (st : State) : Type 0 where
   pub different : IsDistinct same_point st.points
-  pub lines_listed : AllByRecursion (λ line. IsListed (length st.points) line.1 × IsListed (length st.points) line.2) st.front
+  pub lines_listed : AllByRecursion
+      (λ line. IsListed (length st.points) line.1 × IsListed (length st.points) line.2) st.front
 
 -- the lines are in order of making: their numbers rise, and are below the next
 abbrev pub AreRising : List (ℕ × ℕ × ℕ) → ℕ → Type 0
 AreRising [] next = Unit {0}
-AreRising (line ∷ front) next = AllByRecursion (λ other. line.0 < other.0) front × (line.0 < next) × AreRising front next
+AreRising (line ∷ front) next = AllByRecursion (λ other. line.0 < other.0) front × (line.0 < next)
+    × AreRising front next

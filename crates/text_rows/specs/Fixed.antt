@@ -18,4 +18,5 @@ fraction n (suc k) = 46 ∷ last_digits n (suc k)
 
 -- z divided by 10^k: `-` where it is below 0, the whole part, and the fraction
 abbrev pub fixed : ℤ → ℕ → List ℕ
-fixed z k = sign_text (is_negative z) ++ decimal (unsigned_abs z / 10 ^ k) ++ fraction (unsigned_abs z) k
+fixed z k = sign_text (is_negative z) ++ decimal (unsigned_abs z / 10 ^ k)
+    ++ fraction (unsigned_abs z) k

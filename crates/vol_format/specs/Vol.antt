@@ -25,7 +25,7 @@ pub record IsShift (d : ℤ) : Type 0 where
 abbrev pub places : ℤ → ℕ
 places d = unsigned_abs (d +ℤ pos 6)
 
--- a grid coordinate: 64 grid units at the shift d are 10^-d, so that a grid unit is 15625 units of
+-- a grid coordinate: 64 grid steps at the shift d are 10^-d, so that a grid step is 15625 units of
 -- the last of d + 6 decimals
 abbrev pub coordinate : ℕ → ℤ → List ℕ
 coordinate k x = fixed (x *ℤ pos 15625) k
@@ -37,7 +37,8 @@ element_row e = row (decimal e.domain) (e.domain ∷ 0 ∷ 0 ∷ length e.corner
 -- a piece of a segment: its boundary condition, its two ends, the domains on its sides and its
 -- segment twice, with noughts between them
 abbrev pub edge_row : EdgeRow → List ℕ
-edge_row e = row (decimal e.bc) (0 ∷ e.a ∷ e.b ∷ 0 ∷ 0 ∷ e.left ∷ e.right ∷ e.segment ∷ 0 ∷ e.segment ∷ 0 ∷ [])
+edge_row e = row (decimal e.bc)
+    (0 ∷ e.a ∷ e.b ∷ 0 ∷ 0 ∷ e.left ∷ e.right ∷ e.segment ∷ 0 ∷ e.segment ∷ 0 ∷ [])
 
 -- a point: its two coordinates and a nought
 abbrev pub point_row : ℕ → Point → List ℕ

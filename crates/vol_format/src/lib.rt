@@ -43,7 +43,7 @@ pub struct MeshElement {
 /// A mesh: `shift` is the power of ten by which the geometry was moved to the grid.
 #[derive(Debug, Drop)]
 pub struct Mesh {
-    /// A coordinate of 1 in the geometry's file is 64 * 10^shift grid units.
+    /// A coordinate of 1 in the geometry's file is 64 * 10^shift grid steps.
     pub shift: i32,
     /// The points, by their numbers.
     pub points: Points,

@@ -24,7 +24,8 @@ pub record IsInClosure (v : RatPoint) (corners : List Point) : Type 0 where
 
 -- the segment from v to w meets the edge at most in v
 abbrev pub MeetsAtMostIn : RatPoint → RatPoint → Edge → Type 0
-MeetsAtMostIn v w e = (m : RatPoint) → IsRational m → IsOnSegment m v w → IsOnClosed m e.a e.b → IsSamePlace m v
+MeetsAtMostIn v w e = (m : RatPoint) → IsRational m → IsOnSegment m v w → IsOnClosed m e.a e.b
+    → IsSamePlace m v
 
 -- there is a rational point of the open polygon, off the edges, whose segment to v meets each edge at most in v
 pub record HasPointNear (v : RatPoint) (corners : List Point) (es : List Edge) : Type 0 where

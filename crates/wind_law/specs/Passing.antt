@@ -30,7 +30,8 @@ pub record DoesPass (p q : RatPoint) (a b : Point) : Type 0 where
 
 -- unless it is a-b or b-a, the edge has no rational point of the segment p-q
 abbrev pub IsMissed : RatPoint → RatPoint → Point → Point → Edge → Type 0
-IsMissed p q a b e = ¬ (e ≡ edge a b) → ¬ (e ≡ edge b a) → (m : RatPoint) → IsRational m → IsOnSegment m p q → ¬ (IsOnClosed m e.a e.b)
+IsMissed p q a b e = ¬ (e ≡ edge a b) → ¬ (e ≡ edge b a) → (m : RatPoint) → IsRational m
+    → IsOnSegment m p q → ¬ (IsOnClosed m e.a e.b)
 
 -- v is a point of the open segment a-b, and q is strictly right of it
 pub record IsRightAt (v q : RatPoint) (a b : Point) : Type 0 where
@@ -41,7 +42,8 @@ pub record IsRightAt (v q : RatPoint) (a b : Point) : Type 0 where
 
 -- the winding number in `es` falls from p to q by the number of edges a-b less that of edges b-a
 abbrev pub DoesFall : RatPoint → RatPoint → Point → Point → List Edge → Type 0
-DoesFall p q a b es = wind p es -ℤ wind q es ≡ pos (times (edge a b) es) -ℤ pos (times (edge b a) es)
+DoesFall p q a b es = wind p es -ℤ wind q es
+    ≡ pos (times (edge a b) es) -ℤ pos (times (edge b a) es)
 
 -- left of a-b and in the open polygon there is a rational point, off the edges `others`, whose segment to v meets each of them
 -- at most in v, and from which the winding number in `es` falls to q as across a-b

@@ -38,9 +38,11 @@ pub fn law_uncrossed()
 /// round each other point off its sides. A triangle that turns to the left is strictly convex, and the
 /// sides of any polygon are closed.
 pub fn law_polygon()
-    ensures inside { (corners : List Point) (q : RatPoint) → IsStrictlyConvex corners → IsRational q →
+    ensures inside { (corners : List Point) (q : RatPoint) → IsStrictlyConvex corners →
+        IsRational q →
         IsInPolygon q corners → wind q (sides corners) ≡ pos 1 }
-    ensures outside { (corners : List Point) (q : RatPoint) → IsStrictlyConvex corners → IsRational q →
+    ensures outside { (corners : List Point) (q : RatPoint) → IsStrictlyConvex corners →
+        IsRational q →
         IsOff q (sides corners) → ¬ IsInPolygon q corners → wind q (sides corners) ≡ pos 0 }
     ensures triangle { (a b c : Point) → pos 0 <ℤ orient a b c → IsStrictlyConvex (a ∷ b ∷ c ∷ []) }
     ensures closed { (corners : List Point) → IsClosed (sides corners) }
@@ -70,7 +72,8 @@ pub fn law_overlap()
 /// strictly on its two sides.
 pub fn law_jump()
     ensures { (p q : RatPoint) (a b : Point) (es : List Edge) → IsRational p → IsRational q →
-        AllByRecursion IsEdge es → IsClosed es → DoesPass p q a b → AllByRecursion (IsMissed p q a b) es →
+        AllByRecursion IsEdge es → IsClosed es → DoesPass p q a b →
+        AllByRecursion (IsMissed p q a b) es →
         wind p es -ℤ wind q es ≡ pos (times (edge a b) es) -ℤ pos (times (edge b a) es) }
 {}
 
@@ -90,11 +93,13 @@ pub fn law_jump_near()
 /// So where it winds once round the centre, it winds once round each. Of a triangle it need not be said
 /// that it turns to the left.
 pub fn law_inside()
-    ensures alike { (corners : List Point) (p q : RatPoint) (es : List Edge) → IsStrictlyConvex corners →
+    ensures alike { (corners : List Point) (p q : RatPoint) (es : List Edge) →
+        IsStrictlyConvex corners →
         AllByRecursion IsEdge es → IsClosed es → AllByRecursion (λ e. IsApart e.a e.b corners) es →
         IsRational p → IsRational q → IsInPolygon p corners → IsInPolygon q corners →
         wind p es ≡ wind q es }
-    ensures polygon { (corners : List Point) (p : RatPoint) (es : List Edge) → IsStrictlyConvex corners →
+    ensures polygon { (corners : List Point) (p : RatPoint) (es : List Edge) →
+        IsStrictlyConvex corners →
         AllByRecursion IsEdge es → IsClosed es → AllByRecursion (λ e. IsApart e.a e.b corners) es →
         wind (centre corners) es ≡ pos 1 → IsRational p → IsInPolygon p corners →
         wind p es ≡ pos 1 }
@@ -107,7 +112,8 @@ pub fn law_inside()
 /// Two lists in which each edge stands equally often more than its reverse have the same winding numbers
 /// and the same doubled area, and are closed together.
 pub fn law_chain()
-    ensures winding { (q : RatPoint) (es fs : List Edge) → IsSameChain es fs → wind q es ≡ wind q fs }
+    ensures winding { (q : RatPoint) (es fs : List Edge) → IsSameChain es fs →
+        wind q es ≡ wind q fs }
     ensures area { (es fs : List Edge) → IsSameChain es fs → shoelace es ≡ shoelace fs }
     ensures closed { (es fs : List Edge) → IsSameChain es fs → IsClosed es → IsClosed fs }
 {}
@@ -121,5 +127,6 @@ pub fn law_area()
     ensures cut { (a b m : Point) → orient a b m ≡ pos 0 →
         shoelace (edge a m ∷ edge m b ∷ []) ≡ shoelace (edge a b ∷ []) }
     ensures triangle { (a b c : Point) → shoelace (sides (a ∷ b ∷ c ∷ [])) ≡ orient a b c }
-    ensures convex { (corners : List Point) → IsStrictlyConvex corners → pos 1 ≤ℤ shoelace (sides corners) }
+    ensures convex { (corners : List Point) → IsStrictlyConvex corners →
+        pos 1 ≤ℤ shoelace (sides corners) }
 {}

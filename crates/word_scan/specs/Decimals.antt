@@ -45,7 +45,8 @@ power_text (Some power) = power.letter ∷ (sign_text power.sign ++ power.digits
 
 -- the bytes of the parts
 abbrev pub spelling : DecimalParts → List ℕ
-spelling parts = sign_text parts.sign ++ (parts.front ++ (fraction_text parts.fraction ++ power_text parts.power))
+spelling parts = sign_text parts.sign
+    ++ (parts.front ++ (fraction_text parts.fraction ++ power_text parts.power))
 
 -- the digits behind the point
 abbrev pub fraction_digits : Option (List ℕ) → List ℕ
@@ -67,7 +68,10 @@ power_value (Some power) = signed (is_minus power.sign) (value_of power.digits)
 
 -- all digits, before and behind the point, times ten to the exponent less the number of digits behind the point
 abbrev pub value : DecimalParts → Dec
-value parts = record { digits = signed (is_minus parts.sign) (value_of (parts.front ++ fraction_digits parts.fraction)); scale = power_value parts.power -ℤ pos (length (fraction_digits parts.fraction)) }
+value parts = record {
+  digits = signed (is_minus parts.sign) (value_of (parts.front ++ fraction_digits parts.fraction));
+  scale = power_value parts.power -ℤ pos (length (fraction_digits parts.fraction));
+}
 
 -- `e` or `E`, and one or two digits
 pub record IsPower (power : Power) : Type 0 where
@@ -88,17 +92,23 @@ pub record IsDecimal (parts : DecimalParts) : Type 0 where
   pub few : length parts.front + length (fraction_digits parts.fraction) ≤ 30
   pub power : IsPowerIfAny parts.power
   pub short : length (spelling parts) ≤ 40
-  pub scale : unsigned_abs (power_value parts.power -ℤ pos (length (fraction_digits parts.fraction))) ≤ 99
+  pub scale : unsigned_abs (power_value parts.power -ℤ pos
+      (length (fraction_digits parts.fraction))) ≤ 99
 
 -- Reading from left to right: what is read at the front, and what follows it.
 
 -- whether a minus comes first
 abbrev pub sign_at : List ℕ → Bool × List ℕ
 sign_at [] = (false, [])
-sign_at (b ∷ bytes) = if b == 45 then (true, bytes) else if b == 43 then (false, bytes) else (false, b ∷ bytes)
+sign_at (b ∷ bytes) = if b == 45 then (true, bytes)
+    else if b == 43 then (false, bytes)
+    else (false, b ∷ bytes)
 
 abbrev pub digits_at : List ℕ → List ℕ × List ℕ
-digits_at bytes = (take (prefix_len is_ascii_digit bytes) bytes, drop (prefix_len is_ascii_digit bytes) bytes)
+digits_at bytes = (
+  take (prefix_len is_ascii_digit bytes) bytes,
+  drop (prefix_len is_ascii_digit bytes) bytes,
+)
 
 abbrev pub fraction_at : List ℕ → List ℕ × List ℕ
 fraction_at [] = ([], [])
@@ -106,7 +116,9 @@ fraction_at (b ∷ bytes) = if b == 46 then digits_at bytes else ([], b ∷ byte
 
 -- an exponent's sign and digits
 abbrev pub power_at : Bool × List ℕ → Option ℤ
-power_at (minus, digits) = if nat_lt 0 (length digits) && nat_le (length digits) 2 && all_ascii_digits digits then Some (signed minus (value_of digits)) else None
+power_at (minus, digits) =
+    if nat_lt 0 (length digits) && nat_le (length digits) 2 && all_ascii_digits digits
+    then Some (signed minus (value_of digits)) else None
 
 abbrev pub exponent_at : List ℕ → Option ℤ
 exponent_at [] = Some (pos 0)
@@ -115,7 +127,13 @@ exponent_at (b ∷ bytes) = if b == 101 || b == 69 then power_at (sign_at bytes)
 -- the decimal of a sign, digits before and behind the point, and an exponent
 abbrev pub made_of : Bool → List ℕ → List ℕ → Option ℤ → Option Dec
 made_of minus front behind None = None
-made_of minus front behind (Some power) = if nat_lt 0 (length front + length behind) && nat_le (length front + length behind) 30 && nat_le (unsigned_abs (power -ℤ pos (length behind))) 99 then Some (record { digits = signed minus (value_of (front ++ behind)); scale = power -ℤ pos (length behind) }) else None
+made_of minus front behind (Some power) = if nat_lt 0 (length front + length behind)
+    && nat_le (length front + length behind) 30
+    && nat_le (unsigned_abs (power -ℤ pos (length behind))) 99
+    then Some (record {
+      digits = signed minus (value_of (front ++ behind));
+      scale = power -ℤ pos (length behind);
+    }) else None
 
 abbrev pub after_fraction : Bool → List ℕ → List ℕ × List ℕ → Option Dec
 after_fraction minus front (behind, rest) = made_of minus front behind (exponent_at rest)

@@ -20,4 +20,5 @@ abbrev pub is_whole : List ℕ → Bool
 is_whole word = nat_lt 0 (length word) && nat_le (length word) 13 && all_ascii_digits word
 
 abbrev pub whole_of : List ℕ → ℕ → Option ℕ
-whole_of word greatest = if is_whole word && nat_le (value_of word) greatest then Some (value_of word) else None
+whole_of word greatest = if is_whole word && nat_le (value_of word) greatest
+    then Some (value_of word) else None

@@ -52,7 +52,8 @@ pub record IsRun (bytes : List ℕ) : Type 0 where
 abbrev pub AreParts : List Part → Type 0
 AreParts [] = Unit {0}
 AreParts (Space b ∷ parts) = (is_white b ≡ true) × AreParts parts
-AreParts (Note bytes ∷ parts) = AllByRecursion (λ b. b ≢ 10) bytes × EndsLine (spelling parts) × AreParts parts
+AreParts (Note bytes ∷ parts) = AllByRecursion (λ b. b ≢ 10) bytes × EndsLine (spelling parts)
+    × AreParts parts
 AreParts (Run bytes ∷ parts) = IsRun bytes × EndsWord (spelling parts) × AreParts parts
 
 -- the words among parts that begin at byte i, the first of them with number `at`
@@ -60,7 +61,8 @@ abbrev pub places : ℕ → ℕ → List Part → List Word
 places at i [] = []
 places at i (Space b ∷ parts) = places at (i + 1) parts
 places at i (Note bytes ∷ parts) = places at (i + 1 + length bytes) parts
-places at i (Run bytes ∷ parts) = plain at i (i + length bytes) ∷ places (at + 1) (i + length bytes) parts
+places at i (Run bytes ∷ parts) =
+    plain at i (i + length bytes) ∷ places (at + 1) (i + length bytes) parts
 
 abbrev pub runs : List Part → List (List ℕ)
 runs [] = []
@@ -72,4 +74,5 @@ runs (Run bytes ∷ parts) = bytes ∷ runs parts
 pub record Reads (text : List ℕ) (words : List Word) : Type 0 where
   pub some : (parts : List Part) × AreParts parts × (spelling parts ≡ text)
   pub only : (parts : List Part) → AreParts parts → spelling parts ≡ text → words ≡ places 1 0 parts
-  pub bytes : (parts : List Part) → AreParts parts → spelling parts ≡ text → map (bytes_of text) words ≡ runs parts
+  pub bytes : (parts : List Part) → AreParts parts → spelling parts ≡ text
+      → map (bytes_of text) words ≡ runs parts

@@ -24,11 +24,16 @@ pub data Mode : Type 0 where
 -- the words of the bytes that follow, from byte i on, the next of them with number `at`
 unfoldable pub words_from : Mode → ℕ → ℕ → List ℕ → List Word
 words_from Between at i [] = []
-words_from Between at i (b ∷ bytes) = if is_white b then words_from Between at (i + 1) bytes else if b == 35 then words_from InNote at (i + 1) bytes else words_from (InWord i) at (i + 1) bytes
+words_from Between at i (b ∷ bytes) = if is_white b then words_from Between at (i + 1) bytes
+    else if b == 35 then words_from InNote at (i + 1) bytes
+    else words_from (InWord i) at (i + 1) bytes
 words_from InNote at i [] = []
-words_from InNote at i (b ∷ bytes) = if b == 10 then words_from Between at (i + 1) bytes else words_from InNote at (i + 1) bytes
+words_from InNote at i (b ∷ bytes) = if b == 10 then words_from Between at (i + 1) bytes
+    else words_from InNote at (i + 1) bytes
 words_from (InWord from) at i [] = plain at from i ∷ []
-words_from (InWord from) at i (b ∷ bytes) = if is_white b then plain at from i ∷ words_from Between (at + 1) (i + 1) bytes else words_from (InWord from) at (i + 1) bytes
+words_from (InWord from) at i (b ∷ bytes) = if is_white b
+    then plain at from i ∷ words_from Between (at + 1) (i + 1) bytes
+    else words_from (InWord from) at (i + 1) bytes
 
 -- the words of a text in the spaced style, with their places
 abbrev pub spaced_words : List ℕ → List Word
@@ -40,8 +45,10 @@ words_of text = map (bytes_of text) (spaced_words text)
 
 -- a scanner at a place, with the number of the next word
 abbrev pub scan_from : Style → List ℕ → ℕ → ℕ → Scan
-scan_from Spaced text place at = record { text = text; left = words_from Between at place (drop place text); ending = End }
-scan_from Tokens text place at = let given = tokens_from (Past 0) at place (drop place text) in record { text = text; left = given.0; ending = given.1 }
+scan_from Spaced text place at =
+    record { text = text; left = words_from Between at place (drop place text); ending = End }
+scan_from Tokens text place at = let given = tokens_from (Past 0) at place (drop place text) in
+    record { text = text; left = given.0; ending = given.1 }
 
 -- nothing comes next, or a word
 abbrev pub StartsWord : List ℕ → Type 0

@@ -60,11 +60,13 @@ IsToken Name bytes = IsName bytes
 -- before `more`, these bytes are a token of this kind; no longer front is a token, and they are one of no other kind
 pub record IsLongest (kind : Kind) (bytes more : List ℕ) : Type 0 where
   pub token : IsToken kind bytes
-  pub longest : (other : Kind) (front back : List ℕ) → front ++ back ≡ bytes ++ more → IsToken other front → length front ≤ length bytes
+  pub longest : (other : Kind) (front back : List ℕ) → front ++ back ≡ bytes ++ more
+      → IsToken other front → length front ≤ length bytes
   pub only : (other : Kind) → IsToken other bytes → other ≡ kind
 
 abbrev pub HasNoToken : List ℕ → Type 0
-HasNoToken text = (kind : Kind) (front back : List ℕ) → front ++ back ≡ text → IsToken kind front → ⊥
+HasNoToken text = (kind : Kind) (front back : List ℕ) → front ++ back ≡ text → IsToken kind front
+    → ⊥
 
 pub data TokenPart : Type 0 where
   -- a white byte
@@ -91,15 +93,19 @@ EndsTokens (b ∷ rest) = (is_white b ≡ false) × (b ≢ 35) × HasNoToken (b 
 abbrev pub AreTokenParts : List TokenPart → List ℕ → Type 0
 AreTokenParts [] rest = EndsTokens rest
 AreTokenParts (White b ∷ parts) rest = (is_white b ≡ true) × AreTokenParts parts rest
-AreTokenParts (Remark bytes ∷ parts) rest = AllByRecursion (λ b. b ≢ 10) bytes × EndsLine (spelling parts ++ rest) × AreTokenParts parts rest
-AreTokenParts (Token kind bytes ∷ parts) rest = IsLongest kind bytes (spelling parts ++ rest) × AreTokenParts parts rest
+AreTokenParts (Remark bytes ∷ parts) rest = AllByRecursion (λ b. b ≢ 10) bytes
+    × EndsLine (spelling parts ++ rest) × AreTokenParts parts rest
+AreTokenParts (Token kind bytes ∷ parts) rest = IsLongest kind bytes (spelling parts ++ rest)
+    × AreTokenParts parts rest
 
 -- the tokens among parts that begin at byte i, the first of them with number `at`
 abbrev pub token_places : ℕ → ℕ → List TokenPart → List Word
 token_places at i [] = []
 token_places at i (White b ∷ parts) = token_places at (i + 1) parts
 token_places at i (Remark bytes ∷ parts) = token_places at (i + 1 + length bytes) parts
-token_places at i (Token kind bytes ∷ parts) = record { at = at; from = i; to = i + length bytes; kind = kind } ∷ token_places (at + 1) (i + length bytes) parts
+token_places at i (Token kind bytes ∷ parts) =
+    record { at = at; from = i; to = i + length bytes; kind = kind }
+    ∷ token_places (at + 1) (i + length bytes) parts
 
 -- what comes where these bytes are left and the next token would have number `at`
 abbrev pub refusal_at : ℕ → List ℕ → ScanRefusal
@@ -108,6 +114,10 @@ refusal_at at (b ∷ rest) = BadWord at
 
 -- these are the tokens of the text, and this refusal comes after them: it has parts, and however it is parted they are these
 pub record TokenReads (text : List ℕ) (words : List Word) (ending : ScanRefusal) : Type 0 where
-  pub some : (parts : List TokenPart) × (rest : List ℕ) × AreTokenParts parts rest × (spelling parts ++ rest ≡ text)
-  pub places : (parts : List TokenPart) (rest : List ℕ) → AreTokenParts parts rest → spelling parts ++ rest ≡ text → words ≡ token_places 1 0 parts
-  pub last : (parts : List TokenPart) (rest : List ℕ) → AreTokenParts parts rest → spelling parts ++ rest ≡ text → ending ≡ refusal_at (1 + length (token_places 1 0 parts)) rest
+  pub some : (parts : List TokenPart) × (rest : List ℕ) × AreTokenParts parts rest
+      × (spelling parts ++ rest ≡ text)
+  pub places : (parts : List TokenPart) (rest : List ℕ) → AreTokenParts parts rest
+      → spelling parts ++ rest ≡ text → words ≡ token_places 1 0 parts
+  pub last : (parts : List TokenPart) (rest : List ℕ) → AreTokenParts parts rest
+      → spelling parts ++ rest ≡ text
+      → ending ≡ refusal_at (1 + length (token_places 1 0 parts)) rest

@@ -38,7 +38,8 @@ abbrev pub number_len : List ℕ → Option ℕ
 number_len bytes =
     let front = digits_at (sign_at bytes).1 in
     let fraction = fraction_at front.1 in
-    if nat_lt 0 (length front.0 + length fraction.0) then Some (length bytes - length fraction.1) else None
+    if nat_lt 0 (length front.0 + length fraction.0) then Some (length bytes - length fraction.1)
+    else None
 
 abbrev pub of_kind : Kind → ℕ → Option ℕ → Option (Kind × ℕ)
 of_kind kind more len = option_and_then (λ n. Some (kind, n + more)) len
@@ -46,7 +47,10 @@ of_kind kind more len = option_and_then (λ n. Some (kind, n + more)) len
 -- the kind of the token at the front, and how many bytes it has
 unfoldable pub token_at : List ℕ → Option (Kind × ℕ)
 token_at [] = None
-token_at (b ∷ bytes) = if is_mark b then Some (Mark, 1) else if b == 34 then of_kind Text 2 (closed bytes) else if is_ascii_alphabetic b then Some (Name, name_len bytes + 1) else of_kind Number 0 (number_len (b ∷ bytes))
+token_at (b ∷ bytes) = if is_mark b then Some (Mark, 1)
+    else if b == 34 then of_kind Text 2 (closed bytes)
+    else if is_ascii_alphabetic b then Some (Name, name_len bytes + 1)
+    else of_kind Number 0 (number_len (b ∷ bytes))
 
 -- the token of this number, kind and length that begins at byte i
 abbrev pub token_word : ℕ → ℕ → Kind × ℕ → Word
@@ -63,15 +67,19 @@ abbrev pub put_first : Word → List Word × ScanRefusal → List Word × ScanRe
 put_first word (words, ending) = (word ∷ words, ending)
 
 -- what is given where a token may begin: it and what follows it, else a refusal
-abbrev pub given : ℕ → ℕ → Option (Kind × ℕ) → (ℕ → List Word × ScanRefusal) → List Word × ScanRefusal
+abbrev pub given : ℕ → ℕ → Option (Kind × ℕ) → (ℕ → List Word × ScanRefusal) → List Word
+    × ScanRefusal
 given at i None after = ([], BadWord at)
 given at i (Some token) after = put_first (token_word at i token) (after (token.1 - 1))
 
 -- the tokens of the bytes that follow, from byte i on, the next of them with number `at`, and the refusal after them
 unfoldable pub tokens_from : TokenMode → ℕ → ℕ → List ℕ → List Word × ScanRefusal
 tokens_from InRemark at i [] = ([], End)
-tokens_from InRemark at i (b ∷ bytes) = if b == 10 then tokens_from (Past 0) at (i + 1) bytes else tokens_from InRemark at (i + 1) bytes
+tokens_from InRemark at i (b ∷ bytes) = if b == 10 then tokens_from (Past 0) at (i + 1) bytes
+    else tokens_from InRemark at (i + 1) bytes
 tokens_from (Past zero) at i [] = ([], End)
-tokens_from (Past zero) at i (b ∷ bytes) = if is_white b then tokens_from (Past 0) at (i + 1) bytes else if b == 35 then tokens_from InRemark at (i + 1) bytes else given at i (token_at (b ∷ bytes)) (λ n. tokens_from (Past n) (at + 1) (i + 1) bytes)
+tokens_from (Past zero) at i (b ∷ bytes) = if is_white b then tokens_from (Past 0) at (i + 1) bytes
+    else if b == 35 then tokens_from InRemark at (i + 1) bytes
+    else given at i (token_at (b ∷ bytes)) (λ n. tokens_from (Past n) (at + 1) (i + 1) bytes)
 tokens_from (Past (suc n)) at i [] = ([], End)
 tokens_from (Past (suc n)) at i (b ∷ bytes) = tokens_from (Past n) at (i + 1) bytes

@@ -71,8 +71,11 @@ fn exponent(bytes: &[u8]) -> Option<i32>
 /// The decimal that a word writes: an optional sign, 1 to 30 digits with at most one point, and an
 /// optional exponent of one or two digits, in at most 40 bytes, with a scale from -99 to 99.
 pub fn decimal(bytes: &[u8]) -> Option<Dec>
-    ensures found { IfSome result (λ dec. (parts : DecimalParts) × IsDecimal parts × (bytes.now ≡ spelling parts) × (dec ≡ value parts)) }
-    ensures only { (parts : DecimalParts) → IsDecimal parts → bytes.now ≡ spelling parts → result ≡ Some (value parts) }
+    ensures found { IfSome result
+        (λ dec. (parts : DecimalParts) × IsDecimal parts × (bytes.now ≡ spelling parts) ×
+        (dec ≡ value parts)) }
+    ensures only { (parts : DecimalParts) → IsDecimal parts → bytes.now ≡ spelling parts →
+        result ≡ Some (value parts) }
     ensures value { result ≡ decimal_of bytes.now }
 {
     read(bytes)

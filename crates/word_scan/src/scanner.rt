@@ -96,10 +96,12 @@ impl<'a> Scanner<'a> {
         ensures word { IfOk result (λ word. self.old.left ≡ word ∷ self.new.left) }
         ensures text { OnOk result (self.new.text ≡ self.old.text) }
         ensures ending { OnOk result (self.new.ending ≡ self.old.ending) }
-        ensures inside { IfOk result (λ word. (word.from ≤ word.to) × (word.to ≤ length self.old.text)) }
+        ensures inside { IfOk result
+            (λ word. (word.from ≤ word.to) × (word.to ≤ length self.old.text)) }
 
         // A refusal comes exactly where no word is left.
-        ensures refused { IfErr result (λ refusal. (self.old.left ≡ []) × (refusal ≡ self.old.ending)) }
+        ensures refused { IfErr result
+            (λ refusal. (self.old.left ≡ []) × (refusal ≡ self.old.ending)) }
         ensures unchanged { OnErr result (self.new ≡ self.old) }
     {
         match self.style {

@@ -17,8 +17,11 @@ pub fn gap_end(text: &[u8], start: usize) -> usize
     requires { start ≤ length text.now }
     ensures from { start ≤ result }
     ensures within { result ≤ length text.now }
-    ensures same { (at : ℕ) → words_from Between at start (drop start text.now) ≡ words_from Between at result (drop result text.now) }
-    ensures tokens { (at : ℕ) → tokens_from (Past 0) at start (drop start text.now) ≡ tokens_from (Past 0) at result (drop result text.now) }
+    ensures same { (at : ℕ) → words_from Between at start (drop start text.now)
+        ≡ words_from Between at result (drop result text.now) }
+    ensures tokens { (at : ℕ) →
+        tokens_from (Past 0) at start (drop start text.now)
+        ≡ tokens_from (Past 0) at result (drop result text.now) }
     ensures word { StartsWord (drop result text.now) }
 {
     let mut end = start;
@@ -43,7 +46,8 @@ pub fn word_end(text: &[u8], start: usize) -> usize
     requires word { StartsWord (drop start text.now) }
     ensures after { start < result }
     ensures within { result ≤ length text.now }
-    ensures word { (at : ℕ) → words_from Between at start (drop start text.now) ≡ plain at start result ∷ words_from Between (at + 1) result (drop result text.now) }
+    ensures word { (at : ℕ) → words_from Between at start (drop start text.now)
+        ≡ plain at start result ∷ words_from Between (at + 1) result (drop result text.now) }
 {
     let mut end = start + 1;
     while end < text.len() && !is_white(text[end]) {

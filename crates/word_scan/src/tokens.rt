@@ -83,11 +83,14 @@ pub fn token(bytes: &[u8]) -> Option<(Kind, usize)>
 /// The token that comes next from `start` on, with this number.
 pub fn next(text: &[u8], start: usize, at: usize) -> Result<Word, ScanRefusal>
     requires { start ≤ length text.now }
-    ensures given { IfOk result (λ word. tokens_from (Past 0) at start (drop start text.now) ≡ put_first word (tokens_from (Past 0) (at + 1) word.to (drop word.to text.now))) }
+    ensures given { IfOk result
+        (λ word. tokens_from (Past 0) at start (drop start text.now)
+        ≡ put_first word (tokens_from (Past 0) (at + 1) word.to (drop word.to text.now))) }
     ensures number { IfOk result (λ word. word.at ≡ at) }
     ensures begins { IfOk result (λ word. (start ≤ word.from) × (word.from < word.to)) }
     ensures ends { IfOk result (λ word. word.to ≤ length text.now) }
-    ensures refused { IfErr result (λ refusal. tokens_from (Past 0) at start (drop start text.now) ≡ ([], refusal)) }
+    ensures refused { IfErr result
+        (λ refusal. tokens_from (Past 0) at start (drop start text.now) ≡ ([], refusal)) }
 {
     let from = gap_end(text, start);
     if from == text.len() {

@@ -33,8 +33,10 @@ pub fn value_after(start: u128, digits: &[u8]) -> u128
 
 /// The whole number that a word writes: one to thirteen digits, at most `greatest`.
 pub fn whole(bytes: &[u8], greatest: u64) -> Option<u64>
-    ensures some { IfSome result (λ n. IsWhole bytes.now × (n ≡ value_of bytes.now) × (n ≤ greatest)) }
-    ensures only { IsWhole bytes.now → value_of bytes.now ≤ greatest → result ≡ Some (value_of bytes.now) }
+    ensures some { IfSome result
+        (λ n. IsWhole bytes.now × (n ≡ value_of bytes.now) × (n ≤ greatest)) }
+    ensures only { IsWhole bytes.now → value_of bytes.now ≤ greatest →
+        result ≡ Some (value_of bytes.now) }
     ensures value { result ≡ whole_of bytes.now greatest }
 {
     if bytes.is_empty() || bytes.len() > 13 || !are_digits(bytes) {

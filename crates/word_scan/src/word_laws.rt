@@ -38,7 +38,8 @@ pub fn tokens_of_parts()
 /// The decimal of a word is the value of parts that spell it and make a decimal, where there are such parts.
 pub fn decimal_of_parts()
     ensures found { (word : List ℕ) (dec : Dec) → decimal_of word ≡ Some dec
-        → (parts : DecimalParts) × IsDecimal parts × (word ≡ decimal_spelling parts) × (dec ≡ value parts) }
+        → (parts : DecimalParts) × IsDecimal parts × (word ≡ decimal_spelling parts) ×
+        (dec ≡ value parts) }
     ensures only { (parts : DecimalParts) → IsDecimal parts
         → decimal_of (decimal_spelling parts) ≡ Some (value parts) }
 {}

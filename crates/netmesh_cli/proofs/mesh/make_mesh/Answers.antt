@@ -19,5 +19,5 @@ returns-in_err-texts-clause-refused g c =
     rw (p.1, p.2) (memory_makes (MeshJob (task_of_mesh c.args.call.now)) _ _ _ c.in_err-texts.ensures.refused)
 
 pub returns-clause-made : goal.returns-clause-made
-returns-clause-made g c = mesh_made (task_of_mesh c.args.call.now) _ _ _ _ (made_of c.in_ok-made.made) c.requires c.take_geometry.ensures.held c.in_ok-read.ensures.accepted c.in_ok-take_rules.ensures.accepted
+returns-clause-made g c = mesh_made (task_of_mesh c.args.call.now) _ _ _ _ (made_of c.in_ok-made.made) c.requires.built c.take_geometry.ensures.held c.in_ok-read.ensures.accepted c.in_ok-take_rules.ensures.accepted
     (run_of_texts (task_of_mesh c.args.call.now) _ (made_of c.in_ok-made.made) _ _ _ _ c.in_ok-made.ensures.puts c.in_ok-made.ensures.answer c.in_ok-made.ensures.outcome c.in_ok-texts.ensures.log c.in_ok-texts.ensures.mesh c.in_ok-texts.ensures.line c.in_ok-texts.ensures.ended c.in_ok-texts.ensures.covered)

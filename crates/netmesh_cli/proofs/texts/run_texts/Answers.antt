@@ -2,7 +2,7 @@ use Rattle.std.proofs.Common.{sym, ap, ◌∙◌}
 use Rattle.mesh_run.specs.Whole.{unmeshed_geometry}
 use Rattle.mesh_run.specs.Mesh.{mesh_of_run}
 use Rattle.run_log.specs.Summary.{summary_line}
-use Rattle.netmesh_cli.specs.Run.{graded_input}
+use Rattle.netmesh_cli.specs.Run.{sized_input}
 use Rattle.netmesh_cli.proofs.Works.{run_covered, pieces_named}
 use Rattle.netmesh_cli.proofs.texts.run_texts.Goals as goal
 
@@ -19,4 +19,4 @@ pub returns-clause-ended : goal.returns-clause-ended
 returns-clause-ended c = ap (λ w. w.end) (sym (c.in_ok-run.ensures.run ∙ ap (unmeshed_geometry c.args.geometry.now) c.run_options.ensures.value))
 
 pub returns-clause-covered : goal.returns-clause-covered
-returns-clause-covered c = run_covered (graded_input c.args.geometry.now c.args.grading) c.segments.ensures.accepted
+returns-clause-covered c = run_covered (sized_input c.args.geometry.now c.args.maxh c.args.grading) c.segments.ensures.accepted
