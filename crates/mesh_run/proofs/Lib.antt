@@ -7,3 +7,4 @@ pub mod Named
 pub mod Ordered
 -- Openings whose segments are cut.
 pub mod CutFronts
+pub mod Begun

@@ -7,7 +7,7 @@
 -- applied          the state after an application
 -- state_after      the state after applications, one after another; AreNext, each of which is the next one
 -- IsEndOf          how a run ends
-use Rattle.std.specs.Prelude.{ℕ, ◌≡◌, ◌≢◌, ◌⊎◌, ◌+◌, ◌≤◌, ◌<◌, List, [], ◌∷◌, ◌++◌, length, Option, None, Some}
+use Rattle.std.specs.Prelude.{ℕ, ◌≡◌, ◌≢◌, ◌⊎◌, ◌≤◌, ◌<◌, List, [], ◌∷◌, ◌++◌, Option, None, Some}
 use Rattle.grid_geom.specs.declared.Point.{Point}
 use Rattle.rule_reader.specs.declared.rule.Rule.{Rule}
 use Rattle.size_field.specs.Size.{SizeField}

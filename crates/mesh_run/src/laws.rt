@@ -20,7 +20,10 @@ ghost use Rattle.mesh_run.specs.Mesh.{mesh_of_run, RowJoins};
 ghost use Rattle.mesh_run.specs.Numbering.{by_first_occurrence, is_among, number_in};
 ghost use Rattle.mesh_run.specs.Whole.{unmeshed_runs};
 ghost use Rattle.mesh_run.specs.declared.WholeRun.{WholeRun};
-ghost use Rattle.mesh_run.specs.Opening.{front_edges, mesh_points, unmeshed_run, FrontJoins};
+ghost use Rattle.mesh_run.specs.Opening.{domain_points, front_edges, front_from, mesh_points, opening_lines, unmeshed_run, FrontJoins};
+ghost use Rattle.mesh_run.specs.Runs.{opening_state};
+ghost use Rattle.front_chain.specs.Front.{IsOpening, numbered_from};
+ghost use Rattle.state_law.specs.State.{front_edges as edges_of_front};
 
 /// The front with which a domain begins is the domain's boundary, edge by edge, so it winds round each point as the boundary does.
 pub fn law_front()
@@ -65,4 +68,16 @@ pub fn law_ranges()
     ensures front { (d : ℕ) (segments : List Segment) (pieces : List Piece) → All (FrontJoins (length (unmeshed_run d segments pieces).points)) (unmeshed_run d segments pieces).front }
     ensures rows { (w : WholeRun) (segments : List Segment) → All (RowJoins (length (mesh_of_run w segments).points)) (mesh_of_run w segments).edges }
     ensures on_grid { (pieces : List Piece) → All IsPieceOnGrid pieces → All IsOnGrid (mesh_points pieces) }
+{}
+
+/// The points and lines with which a domain of an accepted geometry begins are what a front may begin
+/// with: different points on the grid, lines that join them and are a region, and so small an area that
+/// line numbers stay within 64 bits. Its lines are numbered as a front numbers them, and as edges they
+/// are the domain's boundary in pieces.
+pub fn law_opens()
+    ensures opening { (g : PlanarMap) (greatest grading d : ℕ) → IsGeometry g → 0 < d →
+        IsOpening (domain_points d g.segments (pieces_of g greatest grading)) (opening_lines d g.segments (pieces_of g greatest grading)) }
+    ensures numbered { (n : ℕ) (lines : List (ℕ × ℕ)) → front_from n lines ≡ numbered_from n lines }
+    ensures edges { (d : ℕ) (segments : List Segment) (pieces : List Piece) →
+        edges_of_front (opening_state d segments pieces).points (opening_state d segments pieces).front ≡ piece_boundary d segments pieces }
 {}
