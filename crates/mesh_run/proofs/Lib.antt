@@ -8,3 +8,6 @@ pub mod Ordered
 -- Openings whose segments are cut.
 pub mod CutFronts
 pub mod Begun
+-- Applications: new numbers, steps.
+pub mod Numbers
+pub mod Steps

@@ -9,5 +9,7 @@ pub mod Mesh
 -- Steps: which application comes next, and the states one after another. Runs: the run of a domain and of all domains by rules.
 -- Sum: what is true after each application.
 pub mod Steps
+-- Reached: what a run keeps of its state.
 pub mod Runs
+pub mod Reached
 pub mod Sum

@@ -1,13 +1,12 @@
 -- What the headline says of a domain after each of its applications: the elements and the front that is left add up to the domain, exactly.
 --
--- element_edges, sum_of_elements   the elements' sides, and how often they wind round a point in all
+-- sum_of_elements   how often the elements wind round a point in all
 -- IsOffRun       a rational point off all segments, and off the edges of the state
 -- AddsUp         round each such point the elements and the front wind as often as the boundary in all, each 0 times or once
 -- IsCovered      so it is after each application, and there are at most as many as the boundary's doubled area
-use Rattle.std.specs.Prelude.{ℕ, ◌≡◌, ◌≤◌, List, [], ◌∷◌, map, length, take, pos, ◌+ℤ◌, ℤ}
+use Rattle.std.specs.Prelude.{ℕ, ◌≡◌, ◌≤◌, List, [], ◌∷◌, length, take, pos, ◌+ℤ◌, ℤ}
 use Rattle.std.specs.List.{AllByRecursion}
 use Rattle.grid_geom.specs.declared.Point.{Point}
-use Rattle.grid_geom.specs.declared.Edge.{Edge}
 use Rattle.grid_geom.specs.declared.RatPoint.{RatPoint}
 use Rattle.grid_geom.specs.Plane.{IsRational}
 use Rattle.grid_geom.specs.Polygon.{sides}
@@ -17,18 +16,12 @@ use Rattle.grid_geom.specs.Closed.{IsOff}
 use Rattle.geom_check.specs.Accepted.{IsZeroOrOne}
 use Rattle.geom_check.specs.Boundary.{boundary, edges_of}
 use Rattle.geom_check.specs.Geometry.{PlanarMap}
-use Rattle.state_law.specs.State.{State, front_edges, corners_of}
+use Rattle.state_law.specs.State.{State}
 use Rattle.state_law.specs.Kept.{all_sides}
 use Rattle.front_chain.specs.Front.{or_zero}
 use Rattle.rule_match.specs.declared.application.Application.{Application}
+use Rattle.mesh_run.specs.Reached.{front_at, elements_at}
 use Rattle.mesh_run.specs.Steps.{state_after}
-
--- the elements of a state, each the list of its corners' places
-abbrev pub elements_at : State → List (List Point)
-elements_at st = map (corners_of st.points) st.elements
-
-abbrev pub front_at : State → List Edge
-front_at st = front_edges st.points st.front
 
 -- how often the elements wind round a point in all
 abbrev pub sum_of_elements : RatPoint → List (List Point) → ℤ

@@ -5,6 +5,7 @@ ghost use Rattle.std.specs.List.{IsDistinct};
 ghost use Rattle.grid_geom.specs.Bounds.{IsOnGrid};
 ghost use Rattle.grid_geom.specs.Closed.{same_point};
 ghost use Rattle.grid_geom.specs.declared.Point.{Point};
+ghost use Rattle.grid_geom.specs.declared.Edge.{Edge};
 ghost use Rattle.grid_geom.specs.declared.RatPoint.{RatPoint};
 ghost use Rattle.grid_geom.specs.Winding.{wind};
 ghost use Rattle.geom_check.specs.declared.kinds.Segment.{Segment};
@@ -22,8 +23,14 @@ ghost use Rattle.mesh_run.specs.Whole.{unmeshed_runs};
 ghost use Rattle.mesh_run.specs.declared.WholeRun.{WholeRun};
 ghost use Rattle.mesh_run.specs.Opening.{domain_points, front_edges, front_from, mesh_points, opening_lines, unmeshed_run, FrontJoins};
 ghost use Rattle.mesh_run.specs.Runs.{opening_state};
+ghost use Rattle.mesh_run.specs.Reached.{IsReached, MayBeApplied, front_at};
+ghost use Rattle.mesh_run.specs.Steps.{applied};
 ghost use Rattle.front_chain.specs.Front.{IsOpening, numbered_from};
-ghost use Rattle.state_law.specs.State.{front_edges as edges_of_front};
+ghost use Rattle.rule_reader.specs.Normal.{IsRule};
+ghost use Rattle.rule_match.specs.declared.application.Application.{Application};
+ghost use Rattle.rule_match.specs.Applied.{application};
+ghost use Rattle.rule_match.specs.Candidate.{Attempt, IsCandidate};
+ghost use Rattle.state_law.specs.State.{State, front_edges as edges_of_front};
 
 /// The front with which a domain begins is the domain's boundary, edge by edge, so it winds round each point as the boundary does.
 pub fn law_front()
@@ -80,4 +87,17 @@ pub fn law_opens()
     ensures numbered { (n : ℕ) (lines : List (ℕ × ℕ)) → front_from n lines ≡ numbered_from n lines }
     ensures edges { (d : ℕ) (segments : List Segment) (pieces : List Piece) →
         edges_of_front (opening_state d segments pieces).points (opening_state d segments pieces).front ≡ piece_boundary d segments pieces }
+{}
+
+/// What a run keeps of its state holds of the opening of each domain, and each application of a
+/// candidate keeps it. A candidate's application, by a rule that a reader gives, may be made: its new
+/// places are new, and its elements may be glued one after another, by their numbers. The front is a
+/// region all the while.
+pub fn law_reached()
+    ensures opening { (g : PlanarMap) (greatest grading d : ℕ) → IsGeometry g → 0 < d →
+        IsReached (piece_boundary d g.segments (pieces_of g greatest grading)) (opening_state d g.segments (pieces_of g greatest grading)) }
+    ensures may { (b : List Edge) (st : State) (t : Attempt) → IsReached b st → IsRule t.text → IsCandidate st t →
+        MayBeApplied st (application st t) }
+    ensures after { (b : List Edge) (st : State) (a : Application) → IsReached b st → MayBeApplied st a → IsReached b (applied st a) }
+    ensures region { (b : List Edge) (st : State) → IsReached b st → IsRegion (front_at st) }
 {}
