@@ -11,3 +11,6 @@ pub mod Begun
 -- Applications: new numbers, steps.
 pub mod Numbers
 pub mod Steps
+-- Sums over a run.
+pub mod Areas
+pub mod Covered

@@ -1,6 +1,6 @@
 //! The laws of an opening, each as the contract of a function that does nothing.
 
-ghost use Rattle.std.specs.Prelude.{◌≡◌, ◌<◌, ℕ, List, All, length, true};
+ghost use Rattle.std.specs.Prelude.{◌≡◌, ◌<◌, ◌≤◌, ℕ, List, All, length, take, true};
 ghost use Rattle.std.specs.List.{IsDistinct};
 ghost use Rattle.grid_geom.specs.Bounds.{IsOnGrid};
 ghost use Rattle.grid_geom.specs.Closed.{same_point};
@@ -22,11 +22,14 @@ ghost use Rattle.mesh_run.specs.Numbering.{by_first_occurrence, is_among, number
 ghost use Rattle.mesh_run.specs.Whole.{unmeshed_runs};
 ghost use Rattle.mesh_run.specs.declared.WholeRun.{WholeRun};
 ghost use Rattle.mesh_run.specs.Opening.{domain_points, front_edges, front_from, mesh_points, opening_lines, unmeshed_run, FrontJoins};
-ghost use Rattle.mesh_run.specs.Runs.{opening_state};
+ghost use Rattle.mesh_run.specs.Runs.{opening_of, opening_state, setting_of};
 ghost use Rattle.mesh_run.specs.Reached.{IsReached, MayBeApplied, front_at};
-ghost use Rattle.mesh_run.specs.Steps.{applied};
+ghost use Rattle.mesh_run.specs.Steps.{applied, AreNext, RunSetting, state_after};
+ghost use Rattle.mesh_run.specs.Sum.{IsCovered};
+ghost use Rattle.mesh_run.specs.declared.Options.{Options};
 ghost use Rattle.front_chain.specs.Front.{IsOpening, numbered_from};
-ghost use Rattle.rule_reader.specs.Normal.{IsRule};
+ghost use Rattle.rule_reader.specs.declared.rule.Rule.{Rule};
+ghost use Rattle.rule_reader.specs.Normal.{CanPrint, IsRule};
 ghost use Rattle.rule_match.specs.declared.application.Application.{Application};
 ghost use Rattle.rule_match.specs.Applied.{application};
 ghost use Rattle.rule_match.specs.Candidate.{Attempt, IsCandidate};
@@ -100,4 +103,16 @@ pub fn law_reached()
         MayBeApplied st (application st t) }
     ensures after { (b : List Edge) (st : State) (a : Application) → IsReached b st → MayBeApplied st a → IsReached b (applied st a) }
     ensures region { (b : List Edge) (st : State) → IsReached b st → IsRegion (front_at st) }
+{}
+
+/// After each application of a run the elements and the front that is left add up to the domain, at each
+/// rational point off all segments and off their own edges: the boundary's winding number there is the
+/// sum of theirs, each 0 or 1. There are at most as many applications as the domain's doubled area. All
+/// the while the run keeps of its state what it kept.
+pub fn law_sums()
+    ensures covered { (g : PlanarMap) (rules : List Rule) (options : Options) (d : ℕ) (applications : List Application) →
+        IsGeometry g → 0 < d → CanPrint rules → AreNext (setting_of g rules options d) (opening_of g options d) applications →
+        IsCovered g d (opening_of g options d) applications }
+    ensures kept { (b : List Edge) (s : RunSetting) (st : State) (applications : List Application) (k : ℕ) →
+        IsReached b st → CanPrint s.rules → AreNext s st applications → IsReached b (state_after st (take k applications)) }
 {}
