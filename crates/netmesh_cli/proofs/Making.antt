@@ -5,6 +5,7 @@ use Rattle.folder_io.specs.Causes.{Told}
 use Rattle.folder_io.specs.Names.{Files}
 use Rattle.folder_io.specs.States.{FolderState}
 use Rattle.in2d_reader.specs.declared.geometry.RawGeometry.{RawGeometry}
+use Rattle.rule_reader.specs.declared.rule.Rule.{Rule}
 use Rattle.geom_check.specs.Geometry.{PlanarMap}
 use Rattle.mesh_run.specs.declared.End.{End}
 use Rattle.netmesh_cli.specs.declared.outcome.Outcome.TheVariants.{Shown}
@@ -12,12 +13,13 @@ use Rattle.netmesh_cli.specs.declared.outcome.Refusal.{Refusal}
 use Rattle.netmesh_cli.specs.declared.outcome.Refusal.TheVariants.{Words, In2d, Geometry, Rules, Folder, Out, Memory, NotYet}
 use Rattle.netmesh_cli.specs.Commands.{MeshTask}
 use Rattle.netmesh_cli.specs.Words.{sizing}
-use Rattle.netmesh_cli.specs.Accepted.{AreRules}
+use Rattle.netmesh_cli.specs.Accepted.{AreRules, AreInert}
 use Rattle.netmesh_cli.specs.Causes.{HoldsWithin, IsMemory}
-use Rattle.netmesh_cli.specs.Taking.{HoldsAccepted, TakeRefused, geometry_at, ruleless_file_at}
+use Rattle.netmesh_cli.specs.Taking.{HoldsAccepted, TakeRefused, geometry_at, rule_file_at, inert_file_at}
 use Rattle.netmesh_cli.specs.Run.{sized_input, run_of, log_of, mesh_of, line_of, outcome_of, IsCovered}
 use Rattle.netmesh_cli.specs.Shown.{shown_text}
-use Rattle.netmesh_cli.specs.Jobs.{Job, MeshJob, GeomJob, Made, IsMeshed, IsDrawn, HoldsGeometry, HoldsRules}
+use Rattle.netmesh_cli.specs.Listed.{IsListing}
+use Rattle.netmesh_cli.specs.Jobs.{Job, MeshJob, GeomJob, RulesJob, Made, IsMeshed, IsDrawn, AreListed, HoldsGeometry, HoldsRules}
 use Rattle.netmesh_cli.specs.Served.{MakeRefused}
 use Rattle.netmesh_cli.proofs.Tolds.{told_weaker, told_both}
 use Rattle.netmesh_cli.proofs.Firsts.{take_since}
@@ -42,19 +44,28 @@ geom_refused name s0 s1 r refused = make_refused (GeomJob name) s0 s1 r (inl ref
 pub geom_made : (name : List ℕ) (held : Option Files) (raw : RawGeometry) (g : PlanarMap) (made : Made) → made.puts ≡ [] → made.answer ≡ shown_text raw g → made.outcome ≡ Shown → Told held (λ files. HoldsGeometry files name raw g) → Told held (λ files. IsDrawn name files made)
 geom_made name held raw g made puts answer outcome told = told_weaker held _ (λ files. IsDrawn name files made) (λ files holds. record { raw = raw; geometry = g; held = holds; puts = puts; answer = answer; outcome = outcome }) told
 
+-- ---- rules
+
+-- rules that are read of bytes that are held are held
+pub rules_held : (held : Option Files) (name taken bytes : List ℕ) (rules : List Rule) → bytes ≡ taken → Told held (λ files. HoldsWithin 1048576 files name taken) → AreRules bytes rules → Told held (λ files. HoldsRules files name rules)
+rules_held held name taken bytes rules same told are = told_weaker held _ _ (λ files h. record { bytes = taken; holds = h; are = subst (λ (b : List ℕ). AreRules b rules) same are }) told
+
+pub rules_refused : (name : List ℕ) (s0 s1 : FolderState) (r : Refusal) → TakeRefused s0 s1 r (rule_file_at name) → MakeRefused (RulesJob name) s0 s1 r
+rules_refused name s0 s1 r refused = make_refused (RulesJob name) s0 s1 r (inl refused)
+
+pub rules_made : (name : List ℕ) (held : Option Files) (rules : List Rule) (made : Made) → made.puts ≡ [] → IsListing rules made.answer → made.outcome ≡ Shown → Told held (λ files. HoldsRules files name rules) → Told held (λ files. AreListed name files made)
+rules_made name held rules made puts answer outcome told = told_weaker held _ (λ files. AreListed name files made) (λ files holds. record { rules = rules; held = holds; puts = puts; answer = answer; outcome = outcome }) told
+
 -- ---- mesh
 
 geometry_accepted : (held : Option Files) (name : List ℕ) (raw : RawGeometry) (g : PlanarMap) → Told held (λ files. HoldsGeometry files name raw g) → Told held (λ files. HoldsAccepted files (geometry_at name))
 geometry_accepted held name raw g told = told_weaker held _ _ (λ files h. record { bytes = h.bytes; holds = h.holds; accepted = record { raw = raw; geometry = g; written = h.written } }) told
 
-pub ruleless_held : (held : Option Files) (name taken bytes : List ℕ) → bytes ≡ taken → Told held (λ files. HoldsWithin 1048576 files name taken) → AreRules bytes [] → Told held (λ files. HoldsRules files name [])
-ruleless_held held name taken bytes same told are = told_weaker held _ _ (λ files h. record { bytes = taken; holds = h; are = subst (λ (b : List ℕ). AreRules b []) same are }) told
-
 pub mesh_at_geometry : (task : MeshTask) (s0 s1 : FolderState) (r : Refusal) → TakeRefused s0 s1 r (geometry_at task.geometry) → MakeRefused (MeshJob task) s0 s1 r
 mesh_at_geometry task s0 s1 r refused = make_refused (MeshJob task) s0 s1 r (inl refused)
 
-pub mesh_at_rules : (task : MeshTask) (s0 s1 s2 : FolderState) (raw : RawGeometry) (g : PlanarMap) (r : Refusal) → s1.held ≡ s0.held → s0.faults ≤ s1.faults → Told s0.held (λ files. HoldsGeometry files task.geometry raw g) → TakeRefused s1 s2 r (ruleless_file_at task.rules) → MakeRefused (MeshJob task) s0 s2 r
-mesh_at_rules task s0 s1 s2 raw g r same kept holds refused = make_refused (MeshJob task) s0 s2 r (inr (geometry_accepted s0.held task.geometry raw g holds, inl (take_since s0 s1 s2 r (ruleless_file_at task.rules) same kept refused)))
+pub mesh_at_rules : (task : MeshTask) (s0 s1 s2 : FolderState) (raw : RawGeometry) (g : PlanarMap) (r : Refusal) → s1.held ≡ s0.held → s0.faults ≤ s1.faults → Told s0.held (λ files. HoldsGeometry files task.geometry raw g) → TakeRefused s1 s2 r (inert_file_at task.rules) → MakeRefused (MeshJob task) s0 s2 r
+mesh_at_rules task s0 s1 s2 raw g r same kept holds refused = make_refused (MeshJob task) s0 s2 r (inr (geometry_accepted s0.held task.geometry raw g holds, inl (take_since s0 s1 s2 r (inert_file_at task.rules) same kept refused)))
 
 -- what the run of a geometry gives
 pub record IsRunOf (task : MeshTask) (g : PlanarMap) (made : Made) : Type 0 where
@@ -72,18 +83,19 @@ run_of_texts task g made log mesh line end puts answer outcome is_log is_mesh is
   covered = covered;
 }
 
-pub mesh_made : (task : MeshTask) (h0 h1 : Option Files) (raw : RawGeometry) (g : PlanarMap) (made : Made) → task.options ≡ sizing task.options.maxh task.options.grading → h1 ≡ h0 → Told h0 (λ files. HoldsGeometry files task.geometry raw g) → Told h1 (λ files. HoldsRules files task.rules []) → IsRunOf task g made → Told h0 (λ files. IsMeshed task files made)
-mesh_made task h0 h1 raw g made built same holds rules run = told_both h0 _ _ (λ files. IsMeshed task files made)
+-- so far no rule is applied, so the run by inert rules is the run by none
+pub mesh_made : (task : MeshTask) (h0 h1 : Option Files) (raw : RawGeometry) (g : PlanarMap) (rules : List Rule) (made : Made) → task.options ≡ sizing task.options.maxh task.options.grading → h1 ≡ h0 → Told h0 (λ files. HoldsGeometry files task.geometry raw g) → Told h1 (λ files. HoldsRules files task.rules rules) → AreInert rules → IsRunOf task g made → Told h0 (λ files. IsMeshed task files made)
+mesh_made task h0 h1 raw g rules made built same holds told inert run = told_both h0 _ _ (λ files. IsMeshed task files made)
     (λ files p r. record {
-      input = sized_input g task.options.maxh task.options.grading;
+      input = record { geometry = g; rules = rules; options = sizing task.options.maxh task.options.grading };
       raw = raw;
       geometry = p;
       rules = r;
-      ruleless = refl;
+      inert = inert;
       options = sym built;
       puts = run.puts;
       answer = run.answer;
       outcome = run.outcome;
-      covered = run.covered;
+      covered = record { wound = run.covered.wound; separate = run.covered.separate };
     })
-    holds (subst (λ (h : Option Files). Told h (λ files. HoldsRules files task.rules [])) same rules)
+    holds (subst (λ (h : Option Files). Told h (λ files. HoldsRules files task.rules rules)) same told)

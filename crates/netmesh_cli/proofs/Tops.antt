@@ -11,7 +11,7 @@ use Rattle.netmesh_cli.specs.declared.outcome.Refusal.{Refusal}
 use Rattle.netmesh_cli.specs.declared.outcome.Refusal.TheVariants.{Words, In2d, Geometry, Rules, Folder, Out, Memory, NotYet}
 use Rattle.netmesh_cli.specs.Commands.{MeshTask}
 use Rattle.netmesh_cli.specs.Causes.{IsUntaken}
-use Rattle.netmesh_cli.specs.Jobs.{Job, MeshJob, GeomJob, puts_of, EndsSo, Put}
+use Rattle.netmesh_cli.specs.Jobs.{Job, MeshJob, GeomJob, RulesJob, puts_of, EndsSo, Put}
 use Rattle.netmesh_cli.specs.Served.{AreApart, put_all, IsServed, IsAnswer, HasAll, WrittenBefore, Course, FolderCause, RefusalCause, RefusalStands, Keeps}
 use Rattle.netmesh_cli.specs.Lines.{refusal_line}
 use Rattle.netmesh_cli.specs.Top.{IfServed, IfRefused, IsRefusedAnd, IsServedOr, WritesOrFails, WritesLine, HasLine, Telling, no_line, line_told, no_memory, Answers, HoldsMesh}
@@ -118,6 +118,7 @@ refused_answers job apart s0 s1 o0 o1 o2 given result later course written nothi
 never_refused : (job : Job) (r : Refusal) → ¬ EndsSo job (Refused r)
 never_refused (MeshJob task) r ends = ends
 never_refused (GeomJob geometry) r ends = ends
+never_refused (RulesJob rules) r ends = ends
 
 if_served : (outcome : Outcome) (P : Outcome → Type 0) → P outcome → IfServed outcome P
 if_served Done P fact = fact
@@ -177,7 +178,7 @@ mesh_served task outcome w0 w1 old new s = let m = s.makes in record {
   raw = m.raw;
   geometry = m.geometry;
   rules = m.rules;
-  ruleless = m.ruleless;
+  inert = m.inert;
   options = m.options;
   files = s.put ∙ ap (λ (ps : List Put). put_all ps old) m.puts;
   line = subst (λ (b : List ℕ). ToldBoth w0 w1 (λ before now. now ≡ before ++ b)) m.answer s.written;

@@ -19,14 +19,15 @@ use Rattle.netmesh_cli.specs.declared.made.Put.{Put as PutValue}
 use Rattle.netmesh_cli.specs.declared.made.Made.{Made as MadeValue}
 use Rattle.netmesh_cli.specs.declared.command.MeshCall.{MeshCall}
 use Rattle.netmesh_cli.specs.declared.asked.Asked.{Asked}
-use Rattle.netmesh_cli.specs.declared.asked.Asked.TheVariants.{Mesh, Geom}
-use Rattle.netmesh_cli.specs.Commands.{Task, MeshTask, MeshOf, GeomOf}
+use Rattle.netmesh_cli.specs.declared.asked.Asked.TheVariants.{Mesh, Geom, Rules}
+use Rattle.netmesh_cli.specs.Commands.{Task, MeshTask, MeshOf, GeomOf, RulesOf}
 use Rattle.netmesh_cli.specs.Words.{sizing}
-use Rattle.netmesh_cli.specs.Accepted.{IsGeometryText, AreRules}
+use Rattle.netmesh_cli.specs.Accepted.{IsGeometryText, AreRules, AreInert}
 use Rattle.netmesh_cli.specs.Causes.{HoldsWithin}
-use Rattle.netmesh_cli.specs.Taking.{Taken, geometry_at, ruleless_file_at}
+use Rattle.netmesh_cli.specs.Taking.{Taken, geometry_at, rule_file_at, inert_file_at}
 use Rattle.netmesh_cli.specs.Run.{MeshInput, run_of, log_of, mesh_of, line_of, outcome_of, IsCovered}
 use Rattle.netmesh_cli.specs.Shown.{shown_text}
+use Rattle.netmesh_cli.specs.Listed.{IsListing}
 
 -- ---- what is asked for
 
@@ -34,11 +35,13 @@ use Rattle.netmesh_cli.specs.Shown.{shown_text}
 pub data Job : Type 0 where
   MeshJob : MeshTask → Job
   GeomJob : List ℕ → Job
+  RulesJob : List ℕ → Job
 
 -- as the words of a call ask for it
 abbrev pub task_of_job : Job → Task
 task_of_job (MeshJob task) = MeshOf task
 task_of_job (GeomJob geometry) = GeomOf geometry
+task_of_job (RulesJob rules) = RulesOf rules
 
 -- as the program reads it off the words
 abbrev pub task_of_mesh : MeshCall → MeshTask
@@ -53,27 +56,32 @@ task_of_mesh call = record {
 abbrev pub job_of : Asked → Job
 job_of (Mesh call) = MeshJob (task_of_mesh call)
 job_of (Geom geometry) = GeomJob geometry.now
+job_of (Rules rules) = RulesJob rules.now
 
 -- of the options of `mesh` the greatest size and the grading are built so far
 abbrev pub IsBuilt : Job → Type 0
 IsBuilt (MeshJob task) = task.options ≡ sizing task.options.maxh task.options.grading
 IsBuilt (GeomJob geometry) = Unit {0}
+IsBuilt (RulesJob rules) = Unit {0}
 
 -- a greatest size that is given is in the ranges of a decimal that a word writes
 abbrev pub HasReadableSize : Job → Type 0
 HasReadableSize (MeshJob task) = IsReadableIfAny task.options.maxh
 HasReadableSize (GeomJob geometry) = Unit {0}
+HasReadableSize (RulesJob rules) = Unit {0}
 
 -- ---- what is taken and put
 
 abbrev pub takes_of : Job → List Taken
-takes_of (MeshJob task) = geometry_at task.geometry ∷ ruleless_file_at task.rules ∷ []
+takes_of (MeshJob task) = geometry_at task.geometry ∷ inert_file_at task.rules ∷ []
 takes_of (GeomJob geometry) = geometry_at geometry ∷ []
+takes_of (RulesJob rules) = rule_file_at rules ∷ []
 
 -- the log is put before the mesh
 abbrev pub puts_of : Job → List (List ℕ)
 puts_of (MeshJob task) = task.log ∷ task.mesh ∷ []
 puts_of (GeomJob geometry) = []
+puts_of (RulesJob rules) = []
 
 abbrev pub IsRunOutcome : Outcome → Type 0
 IsRunOutcome Done = Unit {0}
@@ -88,6 +96,7 @@ IsShown _ = ⊥
 abbrev pub EndsSo : Job → Outcome → Type 0
 EndsSo (MeshJob task) = IsRunOutcome
 EndsSo (GeomJob geometry) = IsShown
+EndsSo (RulesJob rules) = IsShown
 
 -- ---- what is made
 
@@ -131,7 +140,7 @@ pub record IsMeshed (task : MeshTask) (files : Files) (made : Made) : Type 0 whe
   pub raw : RawGeometry
   pub geometry : HoldsGeometry files task.geometry raw input.geometry
   pub rules : HoldsRules files task.rules input.rules
-  pub ruleless : input.rules ≡ []
+  pub inert : AreInert input.rules
   pub options : input.options ≡ task.options
   pub puts : made.puts
       ≡ record { name = task.log; bytes = log_of input } ∷ record { name = task.mesh; bytes = mesh_of input } ∷ []
@@ -149,7 +158,16 @@ pub record IsDrawn (name : List ℕ) (files : Files) (made : Made) : Type 0 wher
   pub answer : made.answer ≡ shown_text raw geometry
   pub outcome : made.outcome ≡ Shown
 
+-- `rules`: the rules that are held are accepted, and which of them are live and their text are written
+pub record AreListed (name : List ℕ) (files : Files) (made : Made) : Type 0 where
+  pub rules : List Rule
+  pub held : HoldsRules files name rules
+  pub puts : made.puts ≡ []
+  pub answer : IsListing rules made.answer
+  pub outcome : made.outcome ≡ Shown
+
 -- what a verb makes of the files that are held
 abbrev pub Makes : Job → Files → Made → Type 0
 Makes (MeshJob task) files made = IsMeshed task files made
 Makes (GeomJob geometry) files made = IsDrawn geometry files made
+Makes (RulesJob rules) files made = AreListed rules files made

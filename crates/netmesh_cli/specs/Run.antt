@@ -1,7 +1,7 @@
 -- The run that `mesh` makes of the files that it accepts, and what it puts and writes of it.
 --
 -- MeshInput         what is accepted: the geometry, the rules and the options
--- run_of            its whole run. So far no rule is applied, and the rule files that are accepted hold none
+-- run_of            its whole run. So far no rule is applied, and the rule files that are accepted hold no live one
 -- log_of ..         the bytes of the two files that are put, and the line that is written
 -- IsCovered         the fronts of the run wind as the boundaries of the domains do
 use Rattle.std.specs.Prelude.{◌≡◌, ℕ, min, ℤ, pos, List, [], Option, Some, None, All, AllPairs}

@@ -18,6 +18,7 @@ use Rattle.netmesh_cli.specs.declared.outcome.Refusal.TheVariants.{Words, In2d, 
 use Rattle.netmesh_cli.specs.declared.words_fault.WordsFault.{WordsFault}
 use Rattle.netmesh_cli.specs.Commands.{MeshTask, IsFault}
 use Rattle.netmesh_cli.specs.Words.{AskForUnbuilt}
+use Rattle.netmesh_cli.specs.Accepted.{AreInert}
 use Rattle.netmesh_cli.specs.Causes.{IsMemory, IsUntaken}
 use Rattle.netmesh_cli.specs.Taking.{AreAccepted, FirstRefused}
 use Rattle.netmesh_cli.specs.Run.{MeshInput, run_of, log_of, mesh_of, line_of, outcome_of, IsCovered}
@@ -152,7 +153,7 @@ pub record HoldsMesh (task : MeshTask) (outcome : Outcome) (written now_written 
   pub raw : RawGeometry
   pub geometry : HoldsGeometry old task.geometry raw input.geometry
   pub rules : HoldsRules old task.rules input.rules
-  pub ruleless : input.rules ≡ []
+  pub inert : AreInert input.rules
   pub options : input.options ≡ task.options
   -- LOG holds the log of their run and MESH its mesh, and every other name holds what it held
   pub files : new ≡ finite.insert (finite.insert old task.log (log_of input)) task.mesh (mesh_of input)

@@ -11,11 +11,11 @@ abbrev pub sizing : Option Dec → Option ℕ → MeshOptions
 sizing maxh grading = record { maxh = maxh; grading = grading; class = None; steps = None }
 
 -- what is not built yet: `mesh` with another option than the greatest size and the grading, and the verbs but
--- `mesh` and `geom`
+-- `mesh`, `geom` and `rules`
 abbrev pub IsUnbuilt : Task → Type 0
 IsUnbuilt (MeshOf task) = task.options ≢ sizing task.options.maxh task.options.grading
 IsUnbuilt (GeomOf _) = ⊥
-IsUnbuilt (RulesOf _) = Unit {0}
+IsUnbuilt (RulesOf _) = ⊥
 IsUnbuilt (CheckOf _ _) = Unit {0}
 IsUnbuilt (ViewOf _ _ _) = Unit {0}
 IsUnbuilt (ReplayOf _ _ _) = Unit {0}

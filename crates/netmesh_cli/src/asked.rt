@@ -19,6 +19,8 @@ pub enum Asked<'a> {
     Mesh(MeshCall<'a>),
     /// A geometry, printed.
     Geom(&'a str),
+    /// Rules, printed.
+    Rules(&'a str),
 }
 
 /// Whether no option is given but the greatest size and the grading.
@@ -45,6 +47,7 @@ pub fn read_asked<'a>(alloc: Global, words: &'a [String]) -> Result<Asked<'a>, R
             }
         }
         Ok(Command::Geom { geometry }) => Ok(Asked::Geom(geometry)),
+        Ok(Command::Rules { rules }) => Ok(Asked::Rules(rules)),
         Ok(_) => Err(Refusal::NotYet { part: WORDS_PART }),
         Err(fault) => Err(Refusal::Words(fault)),
     }

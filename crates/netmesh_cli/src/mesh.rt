@@ -12,7 +12,7 @@ ghost use Rattle.netmesh_cli.specs.Served.{MakeRefused};
 use super::command::MeshCall;
 use super::geometry::take_geometry;
 use super::made::{Made, Put};
-use super::rule_file::take_rules;
+use super::rule_file::take_inert_rules;
 use super::texts::{Texts, run_texts};
 use super::{Outcome, Refusal};
 use folder_io::Folder;
@@ -80,7 +80,7 @@ pub fn make_mesh<'a, F: Folder>(
     ensures rises { (F.state folder.old).faults ≤ (F.state folder.new).faults }
 {
     let read = take_geometry(alloc, folder, call.geometry)?;
-    take_rules(alloc, folder, call.rules)?;
+    take_inert_rules(alloc, folder, call.rules)?;
     let texts = run_texts(
         alloc,
         &read.geometry,

@@ -10,6 +10,7 @@ use super::asked::Asked;
 use super::geom::make_geom;
 use super::made::Made;
 use super::mesh::make_mesh;
+use super::rules::make_rules;
 use super::{Outcome, Refusal, files};
 use folder_io::{Folder, Sink};
 use std::alloc::Global;
@@ -35,6 +36,7 @@ fn make<'a, F: Folder>(
     match asked {
         Asked::Mesh(call) => make_mesh(alloc, call, folder),
         Asked::Geom(name) => make_geom(alloc, name, folder),
+        Asked::Rules(name) => make_rules(alloc, name, folder),
     }
 }
 

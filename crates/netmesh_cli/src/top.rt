@@ -66,11 +66,12 @@ fn answered<F: Folder, O: Sink>(
 /// Runs the program on its words. `mesh GEOMETRY RULES MESH LOG` meshes the geometry by the rules,
 /// puts the log and then the mesh, and writes a summary line. `--maxh V` is the greatest size anywhere,
 /// and `--grading N` how fast sizes may grow. `geom GEOMETRY` writes the geometry's normal text, and as
-/// comments its shift and the doubled areas of its domains.
+/// comments its shift and the doubled areas of its domains. `rules RULES` writes of each rule whether it
+/// is live or why it never applies, and the normal text of them all.
 ///
 /// Refused are words at fault; `mesh` with `--class` or `--steps`, and the other verbs; a file that
 /// isn't there, is too long or can't be taken or put; a text of no geometry; a geometry that isn't
-/// accepted; and by `mesh` bytes that are no rule file, and a rule file with a rule. A refusal writes
+/// accepted; bytes that are no rule file; and by `mesh` a rule file with a live rule. A refusal writes
 /// its line. Where memory is refused the outcome says so, and no clause says when it may be.
 pub fn netmesh<R: Threads + Sync, F: Folder, O: Sink, G: Gate + Sync>(
     _rt: &R,
