@@ -1,0 +1,3 @@
+-- The proofs.
+-- InTurn: the corners of a rule's zone, one by one.
+pub mod InTurn

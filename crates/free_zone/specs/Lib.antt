@@ -1,0 +1,5 @@
+-- What is in the way of a rule.
+-- Zone      the corners of a rule's zone at a class (`zone_of`), and what every zone is (`IsZone`).
+-- InTheWay  the points and lines of a front that are in the way (`IsPointInWay`, `IsLineInWay`), and which of them is told (`IsAnswer`).
+pub mod Zone
+pub mod InTheWay
