@@ -2,8 +2,8 @@
 --
 -- Mapped          a front, a rule, and the numbers of the front points to which the rule's points are mapped, in the rule's order
 -- IsMappedLine    a front line stands at a line of the rule
--- HasNoPoint      no front point but the mapped ones is in the open zone
--- HasNoLine       each front line but the mapped ones is apart from the zone
+-- IsFreePoint, IsFreeLine     a point is mapped or not in the open zone; a line is mapped or apart from the zone
+-- HasNoPoint, HasNoLine       all front points, all front lines are free
 -- IsPointInWay, IsLineInWay   the front point, the front line with this number is in the way
 -- IsAnswer        the least point in the way, else the least line, else nothing
 use Rattle.std.specs.Prelude.{◌≡◌, ◌⊎◌, ℕ, ◌-◌, ◌≤◌, List, slice_index_or, Option, Some, None}
@@ -43,34 +43,42 @@ IsFrontPoint lines n = Any (λ line. (line.1 ≡ n) ⊎ (line.2 ≡ n)) lines
 abbrev pub IsMappedLine : Rule → List ℕ → ℕ × ℕ → Type 0
 IsMappedLine r ns ends = Any (λ l. mapped_pair ns l ≡ ends) r.lines
 
-abbrev pub IsInside : List Point → Mapped → ℕ → Type 0
-IsInside zone m n = IsInPolygon (whole (point_at m.front.points n)) zone
+-- the point is in the open zone
+abbrev pub IsInside : List Point → FrontState → ℕ → Type 0
+IsInside zone f n = IsInPolygon (whole (point_at f.points n)) zone
 
-abbrev pub IsBeside : List Point → Mapped → ℕ × ℕ → Type 0
-IsBeside zone m ends = IsApart (point_at m.front.points ends.0) (point_at m.front.points ends.1) zone
+-- the line with these ends is apart from the zone
+abbrev pub IsBeside : List Point → FrontState → ℕ × ℕ → Type 0
+IsBeside zone f ends = IsApart (point_at f.points ends.0) (point_at f.points ends.1) zone
 
 -- ---- nothing is in the way
+abbrev pub IsFreePoint : List Point → Mapped → ℕ → Type 0
+IsFreePoint zone m n = Contains m.numbers n ⊎ ¬ (IsInside zone m.front n)
+
+abbrev pub IsFreeLine : List Point → Mapped → ℕ × ℕ → Type 0
+IsFreeLine zone m ends = IsMappedLine m.rule m.numbers ends ⊎ IsBeside zone m.front ends
+
 -- no front point but the mapped ones is in the open zone
 abbrev pub HasNoPoint : List Point → Mapped → Type 0
-HasNoPoint zone m = (n : ℕ) → IsFrontPoint m.front.lines n → Contains m.numbers n ⊎ ¬ (IsInside zone m n)
+HasNoPoint zone m = (n : ℕ) → IsFrontPoint m.front.lines n → IsFreePoint zone m n
 
 -- each front line but the mapped ones is apart from the zone
 abbrev pub HasNoLine : List Point → Mapped → Type 0
-HasNoLine zone m = AllByRecursion (λ line. IsMappedLine m.rule m.numbers (line.1, line.2) ⊎ IsBeside zone m (line.1, line.2)) m.front.lines
+HasNoLine zone m = AllByRecursion (λ line. IsFreeLine zone m (line.1, line.2)) m.front.lines
 
 -- ---- something is
 -- the front point n is not mapped, and in the open zone
 pub record IsPointInWay (zone : List Point) (m : Mapped) (n : ℕ) : Type 0 where
   pub on_front : IsFrontPoint m.front.lines n
   pub not_mapped : ¬ (Contains m.numbers n)
-  pub inside : IsInside zone m n
+  pub inside : IsInside zone m.front n
 
 -- the front line n is not mapped, and not apart from the zone
 pub record IsLineInWay (zone : List Point) (m : Mapped) (n : ℕ) : Type 0 where
   pub ends : ℕ × ℕ
   pub on_front : line_at m.front.lines n ≡ Some ends
   pub not_mapped : ¬ (IsMappedLine m.rule m.numbers ends)
-  pub not_apart : ¬ (IsBeside zone m ends)
+  pub not_apart : ¬ (IsBeside zone m.front ends)
 
 -- ---- which of them is told
 -- n is such a number, and the least

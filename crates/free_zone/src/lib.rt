@@ -11,6 +11,7 @@
 //!    is in the way, and a point in the way is an end of such a line.
 #![tactic(auto)]
 
+mod around;
 mod blocked;
 mod zone;
 
