@@ -13,3 +13,5 @@ pub mod Remaining
 pub mod Walking
 -- Told: what is told at the end.
 pub mod Told
+-- Worked: the fronts of the tests.
+pub mod Worked

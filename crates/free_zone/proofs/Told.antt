@@ -35,13 +35,16 @@ module _ (zone : List Point) (m : Mapped) (f : Found) (h : IsFound zone m f) whe
   no_point e = λ n p. elim (h.points n p) [ inl free ↦ free | inr a ↦ absurd (subst (λ o. IsAtMost o n) e a) ]
 
   pub line_least : (n : ℕ) → f.point ≡ None → f.line ≡ Some n → HasNoPoint zone m × IsLeast (IsLineInWay zone m) n
-  line_least n e i = (no_point e, record {
-    is = subst (λ o. IfSome o (IsLineInWay zone m)) i h.line;
-    least = λ k w. elim (at_number (λ line. IsFreeLine zone m (line.1, line.2) ⊎ IsAtMost f.line line.0) m.front.lines k w.ends h.lines w.on_front) [
-      | inl free ↦ elim free [ inl c ↦ absurd (w.not_mapped c) | inr o ↦ absurd (w.not_apart o) ]
-      | inr a ↦ subst (λ o. IsAtMost o k) i a
-    ];
-  })
+  line_least n e i = (
+    no_point e,
+    record {
+      is = subst (λ o. IfSome o (IsLineInWay zone m)) i h.line;
+      least = λ k w. elim (at_number (λ line. IsFreeLine zone m (line.1, line.2) ⊎ IsAtMost f.line line.0) m.front.lines k w.ends h.lines w.on_front) [
+        | inl free ↦ elim free [ inl c ↦ absurd (w.not_mapped c) | inr o ↦ absurd (w.not_apart o) ]
+        | inr a ↦ subst (λ o. IsAtMost o k) i a
+      ];
+    },
+  )
 
   pub nothing : f.point ≡ None → f.line ≡ None → HasNoPoint zone m × HasNoLine zone m
   nothing e i = (no_point e, all_map (λ line. IsFreeLine zone m (line.1, line.2) ⊎ IsAtMost f.line line.0) (λ line. IsFreeLine zone m (line.1, line.2)) (λ line k. elim k [ inl free ↦ free | inr a ↦ absurd (subst (λ o. IsAtMost o line.0) i a) ]) m.front.lines h.lines)

@@ -17,3 +17,6 @@ mod zone;
 
 pub use blocked::Blocker;
 pub use zone::Zone;
+
+#[cfg(test)]
+mod tests;
