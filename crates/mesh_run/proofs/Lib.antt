@@ -14,3 +14,5 @@ pub mod Steps
 -- Sums over a run.
 pub mod Areas
 pub mod Covered
+-- What a run by rules names.
+pub mod NamedRuns

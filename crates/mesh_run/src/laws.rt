@@ -17,12 +17,13 @@ ghost use Rattle.state_law.specs.Region.{IsRegion};
 ghost use Rattle.size_field.specs.Cutting.{pieces_of};
 ghost use Rattle.size_field.specs.Parts.{AreUntangled, AreOneOrApart};
 ghost use Rattle.mesh_run.specs.Boundary.{piece_boundary, whole_pieces, IsNumberTo, IsPieceOnGrid};
-ghost use Rattle.mesh_run.specs.Mesh.{mesh_of_run, RowJoins};
+ghost use Rattle.mesh_run.specs.Mesh.{mesh_of_run, NamesItsPoints, RowJoins};
 ghost use Rattle.mesh_run.specs.Numbering.{by_first_occurrence, is_among, number_in};
 ghost use Rattle.mesh_run.specs.Whole.{unmeshed_runs};
 ghost use Rattle.mesh_run.specs.declared.WholeRun.{WholeRun};
+ghost use Rattle.mesh_run.specs.declared.domain_run.DomainRun.{DomainRun};
 ghost use Rattle.mesh_run.specs.Opening.{domain_points, front_edges, front_from, mesh_points, opening_lines, unmeshed_run, FrontJoins};
-ghost use Rattle.mesh_run.specs.Runs.{opening_of, opening_state, setting_of};
+ghost use Rattle.mesh_run.specs.Runs.{opening_of, opening_state, setting_of, IsDomainRun, IsWholeRun};
 ghost use Rattle.mesh_run.specs.Reached.{IsReached, MayBeApplied, front_at};
 ghost use Rattle.mesh_run.specs.Steps.{applied, AreNext, RunSetting, state_after};
 ghost use Rattle.mesh_run.specs.Sum.{IsCovered};
@@ -115,4 +116,17 @@ pub fn law_sums()
         IsCovered g d (opening_of g options d) applications }
     ensures kept { (b : List Edge) (s : RunSetting) (st : State) (applications : List Application) (k : ℕ) →
         IsReached b st → CanPrint s.rules → AreNext s st applications → IsReached b (state_after st (take k applications)) }
+{}
+
+/// The elements of a run by rules and the front lines that are left name points of the domain, which are
+/// grid points.
+pub fn law_names()
+    ensures names { (g : PlanarMap) (rules : List Rule) (options : Options) (d : ℕ) (r : DomainRun) →
+        IsGeometry g → 0 < d → CanPrint rules → IsDomainRun g rules options d r → NamesItsPoints r }
+    ensures front { (g : PlanarMap) (rules : List Rule) (options : Options) (d : ℕ) (r : DomainRun) →
+        IsGeometry g → 0 < d → CanPrint rules → IsDomainRun g rules options d r → All (FrontJoins (length r.points)) r.front }
+    ensures on_grid { (g : PlanarMap) (rules : List Rule) (options : Options) (d : ℕ) (r : DomainRun) →
+        IsGeometry g → 0 < d → CanPrint rules → IsDomainRun g rules options d r → All IsOnGrid r.points }
+    ensures runs { (g : PlanarMap) (rules : List Rule) (options : Options) (w : WholeRun) →
+        IsGeometry g → CanPrint rules → IsWholeRun g rules options w → All NamesItsPoints w.domains }
 {}
