@@ -16,3 +16,7 @@ pub mod Areas
 pub mod Covered
 -- What a run by rules names.
 pub mod NamedRuns
+-- That a run is the only one.
+pub mod OneRun
+-- How runs end.
+pub mod Ended
