@@ -94,6 +94,10 @@ reached_all b s st more zero r can n = r
 reached_all b s st [] (suc k) r can n = r
 reached_all b s st (a ∷ more) (suc k) r can n = reached_all b s (applied st a) more k (reached_after b st a r (may_next b s st a r can n.0)) can n.1
 
+pub reached_state : (b : List Edge) (s : RunSetting) (st : State) (more : List Application) → IsReached b st → CanPrint s.rules → AreNext s st more → IsReached b (state_after st more)
+reached_state b s st [] r can n = r
+reached_state b s st (a ∷ more) r can n = reached_state b s (applied st a) more (reached_after b st a r (may_next b s st a r can n.0)) can n.1
+
 -- at most as many applications as the doubled area
 few : (b : List Edge) (s : RunSetting) (st : State) (more : List Application) → IsReached b st → CanPrint s.rules → AreNext s st more → length more ≤ or_zero (shoelace (front_at st))
 few b s st [] r can n = omega arith

@@ -14,3 +14,9 @@ pub mod Steps
 -- Sums over a run.
 pub mod Areas
 pub mod Covered
+-- What a run by rules names.
+pub mod NamedRuns
+-- That a run is the only one.
+pub mod OneRun
+-- How runs end.
+pub mod Ended

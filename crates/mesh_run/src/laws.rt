@@ -1,7 +1,7 @@
 //! The laws of an opening, each as the contract of a function that does nothing.
 
-ghost use Rattle.std.specs.Prelude.{◌≡◌, ◌<◌, ◌≤◌, ℕ, List, All, length, take, true};
-ghost use Rattle.std.specs.List.{IsDistinct};
+ghost use Rattle.std.specs.Prelude.{◌≡◌, ◌<◌, ◌≤◌, ℕ, List, All, length, take, true, Option, None, [], ◌↔◌, ◌≢◌};
+ghost use Rattle.std.specs.List.{AllZip, IsDistinct};
 ghost use Rattle.grid_geom.specs.Bounds.{IsOnGrid};
 ghost use Rattle.grid_geom.specs.Closed.{same_point};
 ghost use Rattle.grid_geom.specs.declared.Point.{Point};
@@ -17,16 +17,20 @@ ghost use Rattle.state_law.specs.Region.{IsRegion};
 ghost use Rattle.size_field.specs.Cutting.{pieces_of};
 ghost use Rattle.size_field.specs.Parts.{AreUntangled, AreOneOrApart};
 ghost use Rattle.mesh_run.specs.Boundary.{piece_boundary, whole_pieces, IsNumberTo, IsPieceOnGrid};
-ghost use Rattle.mesh_run.specs.Mesh.{mesh_of_run, RowJoins};
+ghost use Rattle.mesh_run.specs.Mesh.{mesh_of_run, NamesItsPoints, RowJoins};
 ghost use Rattle.mesh_run.specs.Numbering.{by_first_occurrence, is_among, number_in};
 ghost use Rattle.mesh_run.specs.Whole.{unmeshed_runs};
 ghost use Rattle.mesh_run.specs.declared.WholeRun.{WholeRun};
+ghost use Rattle.mesh_run.specs.declared.domain_run.DomainRun.{DomainRun};
 ghost use Rattle.mesh_run.specs.Opening.{domain_points, front_edges, front_from, mesh_points, opening_lines, unmeshed_run, FrontJoins};
-ghost use Rattle.mesh_run.specs.Runs.{opening_of, opening_state, setting_of};
+ghost use Rattle.mesh_run.specs.Runs.{opening_of, opening_state, setting_of, IsDomainRun, IsWholeRun};
 ghost use Rattle.mesh_run.specs.Reached.{IsReached, MayBeApplied, front_at};
-ghost use Rattle.mesh_run.specs.Steps.{applied, AreNext, RunSetting, state_after};
+ghost use Rattle.mesh_run.specs.Steps.{applied, AreNext, IsEndOf, IsNext, NothingApplies, RunSetting, state_after};
 ghost use Rattle.mesh_run.specs.Sum.{IsCovered};
 ghost use Rattle.mesh_run.specs.declared.Options.{Options};
+ghost use Rattle.mesh_run.specs.declared.End.{End};
+ghost use Rattle.mesh_run.specs.declared.End.TheVariants.{Done, Stuck, Stopped};
+ghost use Rattle.geom_check.specs.Domains.{domain_numbers};
 ghost use Rattle.front_chain.specs.Front.{IsOpening, numbered_from};
 ghost use Rattle.rule_reader.specs.declared.rule.Rule.{Rule};
 ghost use Rattle.rule_reader.specs.Normal.{CanPrint, IsRule};
@@ -115,4 +119,45 @@ pub fn law_sums()
         IsCovered g d (opening_of g options d) applications }
     ensures kept { (b : List Edge) (s : RunSetting) (st : State) (applications : List Application) (k : ℕ) →
         IsReached b st → CanPrint s.rules → AreNext s st applications → IsReached b (state_after st (take k applications)) }
+{}
+
+/// The elements of a run by rules and the front lines that are left name points of the domain, which are
+/// grid points.
+pub fn law_names()
+    ensures names { (g : PlanarMap) (rules : List Rule) (options : Options) (d : ℕ) (r : DomainRun) →
+        IsGeometry g → 0 < d → CanPrint rules → IsDomainRun g rules options d r → NamesItsPoints r }
+    ensures front { (g : PlanarMap) (rules : List Rule) (options : Options) (d : ℕ) (r : DomainRun) →
+        IsGeometry g → 0 < d → CanPrint rules → IsDomainRun g rules options d r → All (FrontJoins (length r.points)) r.front }
+    ensures on_grid { (g : PlanarMap) (rules : List Rule) (options : Options) (d : ℕ) (r : DomainRun) →
+        IsGeometry g → 0 < d → CanPrint rules → IsDomainRun g rules options d r → All IsOnGrid r.points }
+    ensures runs { (g : PlanarMap) (rules : List Rule) (options : Options) (w : WholeRun) →
+        IsGeometry g → CanPrint rules → IsWholeRun g rules options w → All NamesItsPoints w.domains }
+{}
+
+/// A geometry, rules and options have one run of each domain and one whole run: the next application is
+/// one, and a state has one end.
+pub fn law_one_run()
+    ensures whole { (g : PlanarMap) (rules : List Rule) (options : Options) (v w : WholeRun) →
+        IsWholeRun g rules options v → IsWholeRun g rules options w → v ≡ w }
+    ensures domain { (g : PlanarMap) (rules : List Rule) (options : Options) (d : ℕ) (q r : DomainRun) →
+        IsDomainRun g rules options d q → IsDomainRun g rules options d r → q ≡ r }
+    ensures next { (s : RunSetting) (st : State) (a b : Application) → IsNext s st a → IsNext s st b → a ≡ b }
+    ensures ends { (s : RunSetting) (limit : Option ℕ) (st : State) (made : ℕ) (e f : End) →
+        IsEndOf s limit st made e → IsEndOf s limit st made f → e ≡ f }
+{}
+
+/// A whole run is Done exactly where no domain's front is left. Where no limit is given it is else Stuck,
+/// and in each domain of which a front is left nothing applies; no such run is Stopped.
+pub fn law_ends()
+    ensures done { (g : PlanarMap) (rules : List Rule) (options : Options) (w : WholeRun) → IsWholeRun g rules options w →
+        (w.end ≡ Done) ↔ All (λ r. r.front ≡ []) w.domains }
+    ensures stuck { (g : PlanarMap) (rules : List Rule) (options : Options) (w : WholeRun) → IsWholeRun g rules options w →
+        options.limit ≡ None → ¬ All (λ r. r.front ≡ []) w.domains → w.end ≡ Stuck }
+    ensures nothing { (g : PlanarMap) (rules : List Rule) (options : Options) (w : WholeRun) → IsWholeRun g rules options w →
+        options.limit ≡ None → AllZip (λ d r. r.front ≢ [] →
+        NothingApplies (setting_of g rules options d) (state_after (opening_of g options d) r.applications)) (domain_numbers g.segments) w.domains }
+    ensures unstopped { (g : PlanarMap) (rules : List Rule) (options : Options) (w : WholeRun) → IsWholeRun g rules options w →
+        options.limit ≡ None → w.end ≢ Stopped }
+    ensures domain { (g : PlanarMap) (rules : List Rule) (options : Options) (d : ℕ) (r : DomainRun) → IsDomainRun g rules options d r →
+        (r.end ≡ Done) ↔ (r.front ≡ []) }
 {}
