@@ -9,8 +9,8 @@ use Rattle.std.specs.Prelude.{nat_eq, Option, Some, None}
 use Rattle.std.specs.Option.{option_map}
 use Rattle.std.specs.List.{AllByRecursion, find}
 use Rattle.state_law.specs.State.{glue_line, AreRising}
-use Rattle.front_chain.specs.declared.chain.Side.{Side}
-use Rattle.front_chain.specs.contracts.chain.SidePartialEq.TheImpl as eq
+use Rattle.front_chain.specs.declared.side.Side.{Side}
+use Rattle.front_chain.specs.contracts.side.SidePartialEq.TheImpl as eq
 use Rattle.front_chain.specs.Front.{line_at, number_between}
 use Rattle.front_chain.specs.Tables.{side_at, lines_from, leaving_of}
 

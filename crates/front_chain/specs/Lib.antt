@@ -4,7 +4,9 @@
 -- Gluable sides that may be glued one after another (`CanJoin`), for proofs.
 -- Worked  a triangle, for tests.
 -- Tables  the tables behind it (`AreTables`), for proofs.
+-- Links   the lines in order of making, each with its neighbours (`AreLinked`), for proofs.
 pub mod Front
 pub mod Tables
+pub mod Links
 pub mod Gluable
 pub mod Worked

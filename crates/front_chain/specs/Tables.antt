@@ -2,7 +2,7 @@
 use Rattle.std.specs.Prelude.{◌≡◌, ℕ, zero, suc, Bool, false, nat_lt, ◌+◌, ◌-◌, ◌<◌, ◌≤◌, nat_eq, cond, List, [], ◌∷◌, length, slice_index, slice_index_or, Option, Some, None}
 use Rattle.grid_geom.specs.declared.Point.{Point}
 use Rattle.state_law.specs.State.{IsListed}
-use Rattle.front_chain.specs.declared.chain.Side.{Side}
+use Rattle.front_chain.specs.declared.side.Side.{Side}
 
 -- the side at a place of the table by line numbers: nothing where that line has left, and past the end
 abbrev pub side_at : List (Option Side) → ℕ → Option Side

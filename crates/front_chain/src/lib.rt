@@ -22,6 +22,8 @@ mod chain;
 mod front;
 mod gluing;
 mod opening;
+mod order;
+mod side;
 
 pub use front::{Front, Near};
 pub use std::alloc::AllocError as OutOfMemory;
