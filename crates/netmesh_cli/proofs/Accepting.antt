@@ -1,6 +1,6 @@
 -- Bytes that are accepted as a file of a kind are not refused as one, and bytes have one refusal.
 -- Each kind of file is one case: `split` its refusals, and say why no two of them come together.
-use Rattle.std.proofs.Common.{◌≡◌, ◌≢◌, ◌⊎◌, inl, inr, ℕ, List, sym, subst, ap, refl, ◌∙◌}
+use Rattle.std.proofs.Common.{◌≡◌, ◌⊎◌, inl, inr, ℕ, List, sym, subst, ap, refl, ◌∙◌}
 use Rattle.in2d_reader.specs.declared.geometry.RawGeometry.{RawGeometry}
 use Rattle.in2d_reader.specs.declared.refusal.In2dRefusal.{In2dRefusal}
 use Rattle.rule_reader.specs.declared.fault.RuleRefusal.{RuleRefusal}

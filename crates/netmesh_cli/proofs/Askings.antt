@@ -1,6 +1,6 @@
 -- What the top call promises of words, from what they ask for.
 use Rattle.std.proofs.Common.{◌≡◌, ℕ, List, sym, subst, refl, ap, ◌∙◌, inl, inr}
-use Rattle.std.specs.Prelude.{Option, Some}
+use Rattle.std.specs.Prelude.{Option}
 use Rattle.folder_io.specs.Causes.{Told, ToldBoth}
 use Rattle.folder_io.specs.Names.{Files}
 use Rattle.folder_io.specs.States.{FolderState, SinkState}
@@ -11,11 +11,11 @@ use Rattle.netmesh_cli.specs.declared.outcome.Refusal.{Refusal}
 use Rattle.netmesh_cli.specs.declared.outcome.Refusal.TheVariants.{Words, In2d, Geometry, Rules, Folder, Out, Memory, NotYet}
 use Rattle.netmesh_cli.specs.Commands.{Task, MeshTask, MeshOf, GeomOf, RulesOf, CheckOf, ViewOf, ReplayOf, GenOf, IsCommand, IsFault}
 use Rattle.netmesh_cli.specs.Words.{IsUnbuilt, AskForUnbuilt, WordsRefused}
-use Rattle.netmesh_cli.specs.Causes.{IsUntaken, HasFailed}
+use Rattle.netmesh_cli.specs.Causes.{IsUntaken}
 use Rattle.netmesh_cli.specs.Taking.{TakesRefused}
 use Rattle.netmesh_cli.specs.Jobs.{Job, MeshJob, GeomJob, RulesJob, task_of_job, IsBuilt, takes_of, puts_of}
-use Rattle.netmesh_cli.specs.Served.{AreApart, RefusalCause, RefusalStands, Keeps, WrittenBefore, IsAnswer}
-use Rattle.netmesh_cli.specs.Top.{IsNotYetOrMemory, IsWordsOrMemory, IfServed, IfRefused, WordsAnswer, WordsCause, WritesLine, Answers, Exactly, HoldsMesh, Telling}
+use Rattle.netmesh_cli.specs.Served.{AreApart, RefusalCause, RefusalStands, Keeps, WrittenBefore}
+use Rattle.netmesh_cli.specs.Top.{IsNotYetOrMemory, IsWordsOrMemory, IfServed, IfRefused, WordsAnswer, WordsCause, Answers, Exactly, HoldsMesh, Telling}
 use Rattle.netmesh_cli.proofs.Exclusion.{one_fault, never_both, one_command}
 use Rattle.netmesh_cli.proofs.Firsts.{never_first}
 use Rattle.netmesh_cli.proofs.Tolds.{told_all, told_as_before}

@@ -1,8 +1,8 @@
 -- How far a refused call came: from what its parts ensured, and from there to the cause of the refusal and to
 -- what stands after it. One proof for all verbs.
-use Rattle.std.proofs.Common.{◌≡◌, ◌≢◌, ◌⊎◌, inl, inr, ℕ, ◌≤◌, ◌++◌, List, [], ◌∷◌, map, sym, subst, ap, refl, ◌∙◌}
+use Rattle.std.proofs.Common.{◌≡◌, ◌≢◌, inl, inr, ℕ, ◌≤◌, ◌++◌, List, [], ◌∷◌, map, sym, subst, ap, refl, ◌∙◌}
 use Rattle.std.specs.Prelude.{Option}
-use Rattle.folder_io.specs.Causes.{Told, ToldBoth, GrowsByPrefix}
+use Rattle.folder_io.specs.Causes.{Told, ToldBoth}
 use Rattle.folder_io.specs.Names.{Files, held_at}
 use Rattle.folder_io.specs.States.{FolderState, SinkState, FailedFor}
 use Rattle.netmesh_cli.specs.declared.outcome.Outcome.{Outcome}
@@ -12,7 +12,7 @@ use Rattle.netmesh_cli.specs.Causes.{PutRefused, AnswerRefused, AnswerLeaves, Is
 use Rattle.netmesh_cli.specs.Taking.{AreAccepted, TakesRefused}
 use Rattle.netmesh_cli.specs.declared.made.Put.{Put as PutValue}
 use Rattle.netmesh_cli.specs.Jobs.{put_of, Job, MeshJob, GeomJob, RulesJob, takes_of, puts_of, Put, Made, Makes, names_of_puts}
-use Rattle.netmesh_cli.specs.Served.{IsListed, AreApart, put_all, IsServed, IsAnswer, StopsAt, StopsAtPut, PutsRefused, HasAll, WrittenBefore, MakeRefused, Course, at_make, at_put, at_answer, FolderCause, of_take, of_put, RefusalCause, FolderStands, RefusalStands, Keeps, ArePutInOrder, HasPutInOrder}
+use Rattle.netmesh_cli.specs.Served.{IsListed, AreApart, put_all, IsServed, IsAnswer, StopsAt, StopsAtPut, PutsRefused, HasAll, WrittenBefore, MakeRefused, Course, at_make, at_put, at_answer, of_take, of_put, RefusalCause, FolderStands, RefusalStands, Keeps, ArePutInOrder}
 use Rattle.netmesh_cli.proofs.Tolds.{told_weaker, told_as_before, told_both_weaker, told_before, told_then}
 use Rattle.netmesh_cli.proofs.Firsts.{named, no_out, no_words}
 use Rattle.netmesh_cli.proofs.Puts.{put_since, others_at, untouched, order_at, order_all}

@@ -1,5 +1,5 @@
 -- What the verbs make of the files that they take, and why they make nothing: one section for a verb.
-use Rattle.std.proofs.Common.{◌≡◌, inl, inr, ℕ, ◌≤◌, List, [], ◌∷◌, sym, subst, refl, ap, ◌∙◌}
+use Rattle.std.proofs.Common.{◌≡◌, inl, inr, ℕ, ◌≤◌, List, [], ◌∷◌, sym, subst, ap, ◌∙◌}
 use Rattle.std.specs.Prelude.{Option}
 use Rattle.folder_io.specs.Causes.{Told}
 use Rattle.folder_io.specs.Names.{Files}
@@ -8,18 +8,15 @@ use Rattle.in2d_reader.specs.declared.geometry.RawGeometry.{RawGeometry}
 use Rattle.rule_reader.specs.declared.rule.Rule.{Rule}
 use Rattle.geom_check.specs.Geometry.{PlanarMap}
 use Rattle.mesh_run.specs.declared.End.{End}
-use Rattle.netmesh_cli.specs.declared.outcome.Outcome.TheVariants.{Shown}
 use Rattle.netmesh_cli.specs.declared.outcome.Refusal.{Refusal}
 use Rattle.netmesh_cli.specs.declared.outcome.Refusal.TheVariants.{Words, In2d, Geometry, Rules, Folder, Out, Memory, NotYet}
 use Rattle.netmesh_cli.specs.Commands.{MeshTask}
 use Rattle.netmesh_cli.specs.Words.{sizing}
-use Rattle.netmesh_cli.specs.Accepted.{AreRules, AreInert}
-use Rattle.netmesh_cli.specs.Causes.{HoldsWithin, IsMemory}
+use Rattle.netmesh_cli.specs.Accepted.{AreInert}
+use Rattle.netmesh_cli.specs.Causes.{IsMemory}
 use Rattle.netmesh_cli.specs.Taking.{HoldsAccepted, TakeRefused, geometry_at, rule_file_at, inert_file_at}
 use Rattle.netmesh_cli.specs.Run.{sized_input, run_of, log_of, mesh_of, line_of, outcome_of, IsCovered}
-use Rattle.netmesh_cli.specs.Shown.{shown_text}
-use Rattle.netmesh_cli.specs.Listed.{IsListing}
-use Rattle.netmesh_cli.specs.Jobs.{Job, MeshJob, GeomJob, RulesJob, Made, IsMeshed, IsDrawn, AreListed, HoldsGeometry, HoldsRules}
+use Rattle.netmesh_cli.specs.Jobs.{Job, MeshJob, GeomJob, RulesJob, Made, IsMeshed, HoldsGeometry, HoldsRules}
 use Rattle.netmesh_cli.specs.Served.{MakeRefused}
 use Rattle.netmesh_cli.proofs.Tolds.{told_weaker, told_both}
 use Rattle.netmesh_cli.proofs.Firsts.{take_since}
@@ -41,20 +38,10 @@ memory_makes job s0 s1 (NotYet part) memory = absurd memory
 pub geom_refused : (name : List ℕ) (s0 s1 : FolderState) (r : Refusal) → TakeRefused s0 s1 r (geometry_at name) → MakeRefused (GeomJob name) s0 s1 r
 geom_refused name s0 s1 r refused = make_refused (GeomJob name) s0 s1 r (inl refused)
 
-pub geom_made : (name : List ℕ) (held : Option Files) (raw : RawGeometry) (g : PlanarMap) (made : Made) → made.puts ≡ [] → made.answer ≡ shown_text raw g → made.outcome ≡ Shown → Told held (λ files. HoldsGeometry files name raw g) → Told held (λ files. IsDrawn name files made)
-geom_made name held raw g made puts answer outcome told = told_weaker held _ (λ files. IsDrawn name files made) (λ files holds. record { raw = raw; geometry = g; held = holds; puts = puts; answer = answer; outcome = outcome }) told
-
 -- ---- rules
-
--- rules that are read of bytes that are held are held
-pub rules_held : (held : Option Files) (name taken bytes : List ℕ) (rules : List Rule) → bytes ≡ taken → Told held (λ files. HoldsWithin 1048576 files name taken) → AreRules bytes rules → Told held (λ files. HoldsRules files name rules)
-rules_held held name taken bytes rules same told are = told_weaker held _ _ (λ files h. record { bytes = taken; holds = h; are = subst (λ (b : List ℕ). AreRules b rules) same are }) told
 
 pub rules_refused : (name : List ℕ) (s0 s1 : FolderState) (r : Refusal) → TakeRefused s0 s1 r (rule_file_at name) → MakeRefused (RulesJob name) s0 s1 r
 rules_refused name s0 s1 r refused = make_refused (RulesJob name) s0 s1 r (inl refused)
-
-pub rules_made : (name : List ℕ) (held : Option Files) (rules : List Rule) (made : Made) → made.puts ≡ [] → IsListing rules made.answer → made.outcome ≡ Shown → Told held (λ files. HoldsRules files name rules) → Told held (λ files. AreListed name files made)
-rules_made name held rules made puts answer outcome told = told_weaker held _ (λ files. AreListed name files made) (λ files holds. record { rules = rules; held = holds; puts = puts; answer = answer; outcome = outcome }) told
 
 -- ---- mesh
 

@@ -1,7 +1,7 @@
 -- From how a call went, and how its refusal was told, to what the top call promises.
-use Rattle.std.proofs.Common.{◌≡◌, ◌≢◌, ℕ, ◌≤◌, ◌⊎◌, inl, inr, ◌++◌, List, [], ◌∷◌, sym, subst, ap, refl, ◌∙◌}
+use Rattle.std.proofs.Common.{◌≡◌, ℕ, ◌≤◌, ◌⊎◌, inl, inr, ◌++◌, List, [], sym, subst, ap, ◌∙◌}
 use Rattle.std.specs.Prelude.{Option}
-use Rattle.folder_io.specs.Causes.{Told, ToldBoth, GrowsByPrefix}
+use Rattle.folder_io.specs.Causes.{ToldBoth, GrowsByPrefix}
 use Rattle.folder_io.specs.Names.{Files}
 use Rattle.folder_io.specs.States.{FolderState, SinkState}
 use Rattle.folder_io.proofs.Counts.{rose_from_earlier, rose_until_later}
@@ -12,7 +12,7 @@ use Rattle.netmesh_cli.specs.declared.outcome.Refusal.TheVariants.{Words, In2d, 
 use Rattle.netmesh_cli.specs.Commands.{MeshTask}
 use Rattle.netmesh_cli.specs.Causes.{IsUntaken}
 use Rattle.netmesh_cli.specs.Jobs.{Job, MeshJob, GeomJob, RulesJob, puts_of, EndsSo, Put}
-use Rattle.netmesh_cli.specs.Served.{AreApart, put_all, IsServed, IsAnswer, HasAll, WrittenBefore, Course, FolderCause, RefusalCause, RefusalStands, Keeps}
+use Rattle.netmesh_cli.specs.Served.{AreApart, put_all, IsServed, IsAnswer, HasAll, WrittenBefore, Course, RefusalCause, RefusalStands, Keeps}
 use Rattle.netmesh_cli.specs.Lines.{refusal_line}
 use Rattle.netmesh_cli.specs.Top.{IfServed, IfRefused, IsRefusedAnd, IsServedOr, WritesOrFails, WritesLine, HasLine, Telling, no_line, line_told, no_memory, Answers, HoldsMesh}
 use Rattle.netmesh_cli.proofs.Tolds.{told_both_weaker}

@@ -116,7 +116,11 @@ abbrev pub put_of : PutValue → Put
 put_of put = record { name = put.name.now; bytes = put.bytes.items }
 
 abbrev pub made_of : MadeValue → Made
-made_of made = record { puts = map put_of made.puts.items; answer = made.answer.items; outcome = made.outcome }
+made_of made = record {
+  puts = map put_of made.puts.items;
+  answer = made.answer.items;
+  outcome = made.outcome;
+}
 
 abbrev pub names_of_puts : List Put → List (List ℕ)
 names_of_puts puts = map (λ put. put.name) puts
@@ -143,7 +147,8 @@ pub record IsMeshed (task : MeshTask) (files : Files) (made : Made) : Type 0 whe
   pub inert : AreInert input.rules
   pub options : input.options ≡ task.options
   pub puts : made.puts
-      ≡ record { name = task.log; bytes = log_of input } ∷ record { name = task.mesh; bytes = mesh_of input } ∷ []
+      ≡ record { name = task.log; bytes = log_of input }
+      ∷ record { name = task.mesh; bytes = mesh_of input } ∷ []
   pub answer : made.answer ≡ line_of input
   pub outcome : made.outcome ≡ outcome_of (run_of input).end
   -- off the segments the fronts of the run wind as the boundaries do, each round a place once or not at all

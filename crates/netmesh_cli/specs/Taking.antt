@@ -80,4 +80,5 @@ TakeRefused before now refusal file =
 -- why the takes of some files are refused: the take of one is, and all before it are accepted
 abbrev pub TakesRefused : FolderState → FolderState → Refusal → List Taken → Type 0
 TakesRefused before now refusal takes =
-    FirstOf (λ file. Told before.held (λ files. HoldsAccepted files file)) (TakeRefused before now refusal) takes
+    FirstOf (λ file. Told before.held (λ files. HoldsAccepted files file))
+    (TakeRefused before now refusal) takes

@@ -49,7 +49,8 @@ pub fn serve<F: Folder, O: Sink>(
 ) -> Result<Outcome, Refusal>
     requires built { IsBuilt (job_of asked.now) }
     requires readable { HasReadableSize (job_of asked.now) }
-    ensures served { IfOk result (λ outcome. ToldBoth (F.state folder.old).held (F.state folder.new).held
+    ensures served { IfOk result
+        (λ outcome. ToldBoth (F.state folder.old).held (F.state folder.new).held
         (IsServed (job_of asked.now) outcome
         (O.state out.old).written (O.state out.new).written)) }
     ensures ending { IfOk result (EndsSo (job_of asked.now)) }

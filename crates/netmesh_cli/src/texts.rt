@@ -69,9 +69,12 @@ pub fn run_texts(
 ) -> Result<Texts, Refusal>
     requires { IsReadableIfAny maxh }
     ensures log { IfOk result (λ t. t.log.items ≡ log_of (sized_input geometry.now maxh grading)) }
-    ensures mesh { IfOk result (λ t. t.mesh.items ≡ mesh_text_of (sized_input geometry.now maxh grading)) }
-    ensures line { IfOk result (λ t. t.line.items ≡ line_of (sized_input geometry.now maxh grading)) }
-    ensures ended { IfOk result (λ t. (run_of (sized_input geometry.now maxh grading)).end ≡ t.end) }
+    ensures mesh { IfOk result (λ t. t.mesh.items
+        ≡ mesh_text_of (sized_input geometry.now maxh grading)) }
+    ensures line { IfOk result (λ t. t.line.items
+        ≡ line_of (sized_input geometry.now maxh grading)) }
+    ensures ended { IfOk result
+        (λ t. (run_of (sized_input geometry.now maxh grading)).end ≡ t.end) }
     ensures covered { IfOk result (λ t. IsCovered (sized_input geometry.now maxh grading)) }
     ensures refused { IfErr result IsMemory }
 {

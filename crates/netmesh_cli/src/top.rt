@@ -89,10 +89,12 @@ pub fn netmesh<R: Threads + Sync, F: Folder, O: Sink, G: Gate + Sync>(
     ensures words_cause { IfRefused result (WordsCause (map string_bytes words.now)) }
 
     // The verbs that are built.
-    ensures answers { (job : Job) → IsBuilt job → IsCommand (map string_bytes words.now) (task_of_job job)
+    ensures answers { (job : Job) → IsBuilt job
+        → IsCommand (map string_bytes words.now) (task_of_job job)
         → Answers job result
         (F.state folder.old) (F.state folder.new) (O.state out.old) (O.state out.new) }
-    ensures exactly { (job : Job) → IsBuilt job → IsCommand (map string_bytes words.now) (task_of_job job)
+    ensures exactly { (job : Job) → IsBuilt job
+        → IsCommand (map string_bytes words.now) (task_of_job job)
         → Told (F.state folder.old).held
         (Exactly job result
         (HasFailed (F.state folder.old) (F.state folder.new))

@@ -1,4 +1,4 @@
-use Rattle.std.proofs.Common.{◌+◌, ◌-◌, ◌≡◌, sym, subst, ap, ◌∙◌, get_or, arith}
+use Rattle.std.proofs.Common.{◌≡◌, sym, subst, ap, ◌∙◌, get_or, arith}
 use Rattle.std.proofs.lemmas.List.Elements.{AllWithin-more}
 use Rattle.rule_reader.specs.declared.rule.Rule.{Rule}
 use Rattle.rule_maps.specs.Inert.{IsLive}

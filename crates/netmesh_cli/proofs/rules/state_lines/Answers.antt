@@ -1,4 +1,4 @@
-use Rattle.std.proofs.Common.{◌+◌, ◌-◌, ◌≡◌, sym, ap, ◌∙◌, get_or, arith}
+use Rattle.std.proofs.Common.{◌≡◌, sym, ap, ◌∙◌, get_or, arith}
 use Rattle.netmesh_cli.proofs.States.{lines_next}
 use Rattle.netmesh_cli.proofs.rules.state_lines.Goals as goal
 
