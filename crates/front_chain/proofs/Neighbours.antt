@@ -1,17 +1,14 @@
 -- The lines in order of making stay linked when one leaves and when one joins, and a walk along the links finds the least number above another. Neighbours are unique, so a line that leaves has the one before it and the one after it as its only neighbours.
-use Prim.Native.Nat.{ℕ, zero, suc, ◌+◌, ◌-◌, ◌≤◌, ◌<◌}
-use lib.ListN.{length, set, get_or}
-use lib.Seq.{ext_get_or, get_or-set_same, get_or-set_other}
+use Prim.Native.Nat.{ℕ, ◌+◌, ◌≤◌, ◌<◌}
 use mathlib.Core.Path.{◌≡◌, refl, sym, ap, ◌∙◌, subst}
 use mathlib.Core.Bool.{Bool, true, false, cond}
-use mathlib.Core.List.{List, [], ◌∷◌, ◌++◌}
 use mathlib.Core.Logic.{◌≢◌, ◌⊎◌, inl, inr}
 use native.Mathlib.Omega.{arith}
 use Rattle.std.specs.Prelude.{nat_eq, is_some, Option, Some, None}
 use Rattle.std.specs.Option.{option_map}
 use Rattle.front_chain.specs.declared.side.Side.{Side}
 use Rattle.front_chain.specs.declared.order.Link.{Link}
-use Rattle.front_chain.specs.Links.{tabled, sides_in, followed_by, led_by, IsMade, IsNext, AreLinked}
+use Rattle.front_chain.specs.Links.{sides_in, followed_by, led_by, IsMade, IsNext, AreLinked}
 
 abbrev pub Table : Type 0
 Table = ℕ → Option Link
@@ -187,9 +184,9 @@ module _ (links : Table) (count first last gone : ℕ) (link : Link) (h : AreLin
   link_left : (q : ℕ) (now : Link) → left q ≡ Some now → (old : Link) × ((links q ≡ Some old) × ((now.after ≡ cond (nat_eq link.before q) link.after old.after) × (now.before ≡ cond (nat_eq link.after q) link.before old.before)))
   unfolding left
   link_left q now e =
-    let first = no_image (led_by link.after link.before q) (option_map (followed_by link.before link.after q) (cond (nat_eq gone q) None (links q))) now e in
-    let second = no_image (followed_by link.before link.after q) (cond (nat_eq gone q) None (links q)) first.0 first.1.0 in
-    (second.0, (by (nat_eq gone q) second.1.0, (sym (ap (λ (l : Link). l.after) first.1.1) ∙ sym (ap (λ (l : Link). l.after) second.1.1), sym (ap (λ (l : Link). l.before) first.1.1) ∙ ap (λ (z : ℕ). cond (nat_eq link.after q) link.before z) (sym (ap (λ (l : Link). l.before) second.1.1)))))
+      let first = no_image (led_by link.after link.before q) (option_map (followed_by link.before link.after q) (cond (nat_eq gone q) None (links q))) now e in
+      let second = no_image (followed_by link.before link.after q) (cond (nat_eq gone q) None (links q)) first.0 first.1.0 in
+      (second.0, (by (nat_eq gone q) second.1.0, (sym (ap (λ (l : Link). l.after) first.1.1) ∙ sym (ap (λ (l : Link). l.after) second.1.1), sym (ap (λ (l : Link). l.before) first.1.1) ∙ ap (λ (z : ℕ). cond (nat_eq link.after q) link.before z) (sym (ap (λ (l : Link). l.before) second.1.1)))))
     where
       by : (b : Bool) {l : Link} → cond b None (links q) ≡ Some l → links q ≡ Some l
       by true e = absurd (cc)
@@ -400,8 +397,10 @@ module _ (links : Table) (count first last : ℕ) (side : Side) (h : AreLinked l
           (still_to o.0.before n (h.before_is n o.0 o.1.0) (made_zero n (h.within n (ap is_some o.1.0)).0))
 
   pub first_joined : cond (is_some (links last)) first (count + 1) ≡ cond (nat_eq last 0) (count + 1) first
-  first_joined = elim h.last_is.from [ inl e ↦ ap (λ b. cond b first (count + 1)) (absent e (links last) refl) ∙ sym (ap (λ b. cond b (count + 1) first) (zero_is last e))
-      | inr m ↦ ap (λ b. cond b first (count + 1)) m ∙ sym (ap (λ b. cond b (count + 1) first) (not_zero last (h.within last m).0)) ]
+  first_joined = elim h.last_is.from [
+    | inl e ↦ ap (λ b. cond b first (count + 1)) (absent e (links last) refl) ∙ sym (ap (λ b. cond b (count + 1) first) (zero_is last e))
+    | inr m ↦ ap (λ b. cond b first (count + 1)) m ∙ sym (ap (λ b. cond b (count + 1) first) (not_zero last (h.within last m).0))
+  ]
     where
       zero_is : (q : ℕ) → q ≡ 0 → nat_eq q 0 ≡ true
       zero_is q e = grind arith

@@ -4,7 +4,7 @@ use lib.ListN.{length, set, get_or}
 use lib.Seq.{ext_get_or, get_or-set_same, get_or-set_other, get_or-append_right}
 use mathlib.Core.Path.{◌≡◌, refl, sym, ap, ◌∙◌, subst}
 use mathlib.Core.Bool.{Bool, true, false, cond}
-use mathlib.Core.List.{List, [], ◌∷◌, ◌++◌}
+use mathlib.Core.List.{[], ◌∷◌, ◌++◌}
 use mathlib.Core.Logic.{◌≢◌, ◌⊎◌, inl, inr}
 use native.Mathlib.Omega.{arith}
 use Rattle.std.specs.Prelude.{nat_eq, is_some, min, ◌^◌, Option, Some, None}
@@ -16,7 +16,7 @@ use Rattle.front_chain.specs.Front.{line_at, number_above}
 use Rattle.front_chain.specs.Tables.{side_at, lines_from}
 use Rattle.front_chain.specs.Links.{tabled, sides_in, IsMade, IsNext, AreLinked}
 use Rattle.front_chain.proofs.Lines.{ends, line_numbered, no_line_zero, past_end}
-use Rattle.front_chain.proofs.Above.{AreGone, gone_above, found_some}
+use Rattle.front_chain.proofs.Above.{gone_above, found_some}
 use Rattle.front_chain.proofs.Neighbours.{Table, some_map}
 
 -- ---- places
@@ -204,7 +204,7 @@ above_tabled links count first last after n h a past = by (compared n) past a.th
         let in_table = (h.within n m).1 in
         ap (λ b. cond b None (Some n)) (not_zero n l) ∙ ap Some (sym (back n l))
         ∙ sym (found_some (tabled (sides_in links) count) after (n - 1) (before after n p) (ap is_some (at_number (sides_in links) count n l in_table) ∙ some_map (λ (k : Link). k.side) (links n) ∙ m)
-          (λ j k i. gone j k (inside j n count i in_table) (λ made. passed j n i (a.between (j + 1) made (above j k)).1)))
+        (λ j k i. gone j k (inside j n count i in_table) (λ made. passed j n i (a.between (j + 1) made (above j k)).1)))
       where
         before : (a n : ℕ) → a < n → a ≤ n - 1
         before a n l = omega (arith, l)

@@ -1,5 +1,5 @@
 -- The lines of a front in order of making: a table by number in which each line has the numbers of the line before it and of the line after it.
-use Rattle.std.specs.Prelude.{◌≡◌, ◌≢◌, ◌⊎◌, ℕ, zero, suc, ◌+◌, ◌<◌, ◌≤◌, nat_eq, true, cond, List, [], ◌∷◌, ◌++◌, Option, Some, is_some}
+use Rattle.std.specs.Prelude.{◌≡◌, ◌≢◌, ◌⊎◌, ℕ, zero, suc, ◌<◌, ◌≤◌, nat_eq, true, cond, List, [], ◌∷◌, ◌++◌, Option, Some, is_some}
 use Rattle.std.specs.Option.{option_map}
 use Rattle.front_chain.specs.declared.side.Side.{Side}
 use Rattle.front_chain.specs.declared.order.Link.{Link}
@@ -20,10 +20,18 @@ sides_in links n = option_map (λ link. link.side) (links n)
 
 -- the line at q with another number after it, or before it, where it is the line with number n
 abbrev pub followed_by : ℕ → ℕ → ℕ → Link → Link
-followed_by n after q link = record { side = link.side; before = link.before; after = cond (nat_eq n q) after link.after }
+followed_by n after q link = record {
+  side = link.side;
+  before = link.before;
+  after = cond (nat_eq n q) after link.after;
+}
 
 abbrev pub led_by : ℕ → ℕ → ℕ → Link → Link
-led_by n before q link = record { side = link.side; before = cond (nat_eq n q) before link.before; after = link.after }
+led_by n before q link = record {
+  side = link.side;
+  before = cond (nat_eq n q) before link.before;
+  after = link.after;
+}
 
 -- a line has the number
 abbrev pub IsMade : (ℕ → Option Link) → ℕ → Type 0

@@ -46,11 +46,13 @@ impl Model for Chain {
       walk = values c.sides;
       waiting = c.waiting.items;
       spare_points = min (room_of_set c.places)
-          (min (vec_capacity c.leaving - vec_len c.leaving) (vec_capacity c.waiting - vec_len c.waiting));
+          (min (vec_capacity c.leaving - vec_len c.leaving)
+          (vec_capacity c.waiting - vec_len c.waiting));
       spare_lines = min (room_of_map c.sides) c.order.spare;
     } };
 
-    ghost invariant = { λ c. AreTables c.places.keys c.leaving.items c.order.made (λ s. get side.eq c.sides s) ×
+    ghost invariant = { λ c. AreTables c.places.keys c.leaving.items c.order.made
+        (λ s. get side.eq c.sides s) ×
         IsUnique side.eq c.sides };
 }
 

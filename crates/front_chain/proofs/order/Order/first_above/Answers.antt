@@ -1,12 +1,11 @@
-use Rattle.std.proofs.Common.{ℕ, ◌≡◌, ◌∙◌, ◌<◌, ◌≤◌, sym, ap, subst, arith, nat_eq, is_some, Some}
+use Rattle.std.proofs.Common.{◌≡◌, ◌∙◌, sym, ap, arith, nat_eq, is_some, Some}
 use mathlib.Core.Logic.{inl, inr}
 use Rattle.std.specs.Option.{option_copied}
 use Rattle.indexmap.specs.IndexMap.{get}
 use Rattle.front_chain.specs.Front.{number_above}
 use Rattle.front_chain.specs.Tables.{lines_from}
-use Rattle.front_chain.specs.Links.{IsMade, IsNext}
 use Rattle.front_chain.proofs.Neighbours.{Table}
-use Rattle.front_chain.proofs.Numbered.{above_tabled, ahead_first, ahead_next, fewer_steps}
+use Rattle.front_chain.proofs.Numbered.{above_tabled, ahead_next, fewer_steps}
 use Rattle.front_chain.proofs.order.Order.first_above.Goals as goal
 
 pub loop-n-smaller : goal.loop-n-smaller

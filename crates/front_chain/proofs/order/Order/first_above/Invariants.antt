@@ -1,4 +1,4 @@
-use Rattle.std.proofs.Common.{ℕ, ◌+◌, ◌-◌, cond, nat_eq}
+use Rattle.std.proofs.Common.{nat_eq}
 use Rattle.indexmap.specs.IndexMap.{get}
 use Rattle.front_chain.proofs.Numbered.{IsAhead, steps_left}
 use Rattle.front_chain.proofs.order.Order.first_above.Given as goal

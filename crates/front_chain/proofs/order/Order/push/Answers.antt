@@ -1,8 +1,8 @@
-use Rattle.std.proofs.Common.{ℕ, ◌≡◌, ◌∙◌, ◌+◌, ◌<◌, ◌++◌, ◌∷◌, [], sym, ap, subst, arith, nat_eq, cond, is_some, Some, OnOk}
+use Rattle.std.proofs.Common.{ℕ, ◌≡◌, ◌∙◌, ◌+◌, ◌++◌, ◌∷◌, [], sym, ap, subst, nat_eq, cond, Some, OnOk}
 use Rattle.std.specs.Option.{option_map}
 use Rattle.indexmap.specs.IndexMap.{get, Updates}
 use Rattle.front_chain.specs.declared.order.Link.{Link}
-use Rattle.front_chain.specs.Links.{followed_by, sides_in, AreLinked}
+use Rattle.front_chain.specs.Links.{sides_in, AreLinked}
 use Rattle.front_chain.proofs.Neighbours.{Table, new_link, after_joining, links_joined, sides_joined, first_joined}
 use Rattle.front_chain.proofs.Numbered.{tabled_more, one_number_more}
 use Rattle.front_chain.proofs.order.Order.push.Goals as goal

@@ -1,9 +1,9 @@
-use Rattle.std.proofs.Common.{ℕ, ◌≡◌, ◌∙◌, ◌-◌, sym, ap, subst, nat_eq, set, cond, is_some, Some, None, true}
+use Rattle.std.proofs.Common.{ℕ, ◌≡◌, ◌∙◌, ◌-◌, sym, ap, subst, nat_eq, set, cond, is_some, Some, None}
 use Rattle.std.specs.Option.{option_map}
 use Rattle.indexmap.specs.IndexMap.{get}
 use Rattle.front_chain.specs.declared.order.Link.{Link}
 use Rattle.front_chain.specs.Tables.{side_at}
-use Rattle.front_chain.specs.Links.{followed_by, led_by, sides_in, AreLinked, IsMade}
+use Rattle.front_chain.specs.Links.{followed_by, led_by, sides_in, AreLinked}
 use Rattle.front_chain.proofs.Neighbours.{Table, some_map, after_leaving, links_left, sides_left, first_noted, last_noted}
 use Rattle.front_chain.proofs.Numbered.{made_tabled, tabled_less}
 use Rattle.front_chain.proofs.order.Order.take_off.Goals as goal
@@ -34,11 +34,11 @@ unwrap-link-requires c = ap is_some c.swap_remove.ensures.value ∙ made_tabled 
 
 pub invariant_of-self : goal.invariant_of-self
 invariant_of-self c = (
-    subst (λ (t : Table). AreLinked t c.self.inside.count c.set_after.new.first c.set_before.new.last) (λ i q. sym (noted_after c q) i)
-        (links_left (before c) c.self.inside.count c.self.inside.first c.self.inside.last c.args.n c.unwrap-link.result c.self.invariant.0 (there c) c.set_after.new.first c.set_before.new.last (first_is c) (last_is c)),
-    c.set_before.ensures.unique,
-    c.self.invariant.2,
-  )
+  subst (λ (t : Table). AreLinked t c.self.inside.count c.set_after.new.first c.set_before.new.last) (λ i q. sym (noted_after c q) i)
+      (links_left (before c) c.self.inside.count c.self.inside.first c.self.inside.last c.args.n c.unwrap-link.result c.self.invariant.0 (there c) c.set_after.new.first c.set_before.new.last (first_is c) (last_is c)),
+  c.set_before.ensures.unique,
+  c.self.invariant.2,
+)
 
 pub returns-clause-made : goal.returns-clause-made
 returns-clause-made c = tabled_less (sides_in (before c)) (sides_in (λ q. get nat_eq c.set_before.new.links q)) c.self.inside.count c.args.n c.requires.positive (c.self.invariant.0.within c.args.n (ap is_some (there c))).1
