@@ -46,7 +46,8 @@ impl Zone {
     fn is_point_free(&self, front: &Front, mapped: &[u64], n: u64) -> bool
         requires { IsListed (length front.now.points) n }
         ensures free { IsTrue result → Contains mapped.now n ⊎ ¬ (IsInside self.now front.now n) }
-        ensures in_way { IsFalse result → ¬ (Contains mapped.now n) × IsInside self.now front.now n }
+        ensures in_way { IsFalse result → ¬ (Contains mapped.now n) ×
+            IsInside self.now front.now n }
     {
         mapped.contains(&n) || !in_open(front.point(n), self.corners())
     }
