@@ -13,6 +13,7 @@
 
 mod around;
 mod blocked;
+mod mapped;
 mod zone;
 
 pub use blocked::Blocker;
