@@ -11,3 +11,13 @@ pub mod Begun
 -- Applications: new numbers, steps.
 pub mod Numbers
 pub mod Steps
+-- Runs by rules. SameState: what applies depends on points and front alone.
+pub mod SameState
+-- LinesUp: front lines by rising numbers.
+pub mod LinesUp
+-- Searched: what a search by classes and lines has found.
+pub mod Searched
+-- Put: an application put on a front.
+pub mod Put
+-- GoesOn: a run goes on by one application.
+pub mod GoesOn

@@ -10,6 +10,7 @@
 #![tactic(auto)]
 
 mod application;
+mod applying;
 mod boundary;
 mod domain_run;
 mod gate;
@@ -18,6 +19,8 @@ mod lists;
 mod mesh;
 mod numbering;
 mod opening;
+mod run;
+mod stepped;
 mod whole;
 
 pub use application::{Application, Applications};
@@ -26,8 +29,10 @@ pub use domain_run::{DomainRun, DomainRuns};
 pub use gate::{Gate, NoGate};
 pub use lists::{Elements, FrontRows, OpeningLines, PointNumbers};
 pub use mesh::mesh_of;
+pub use run::Run;
 pub use size_field::{Piece, Pieces};
 pub use std::alloc::AllocError as OutOfMemory;
+pub use stepped::Stepped;
 pub use whole::{open_all, open_geometry};
 
 /// The options of a run.

@@ -1,0 +1,186 @@
+// The run of a domain by rules.
+ghost use Rattle.std.specs.Prelude.{◌≡◌, ◌≤◌, IsSome, IfOk, IfSome, IfNone, OnOk, OnErr};
+ghost use Rattle.std.specs.List.{AllByRecursion};
+ghost use Rattle.state_law.specs.State.{AreRising};
+ghost use Rattle.front_chain.specs.Front.{line_at, number_above};
+ghost use Rattle.admission.specs.Around.{IsThere};
+ghost use Rattle.rule_match.specs.Best.{IsBest};
+ghost use Rattle.rule_match.specs.Least.{HasNone};
+ghost use Rattle.mesh_run.specs.Steps.{IsNext, NothingApplies};
+
+use super::applying::{copy_of, put};
+use super::{Application, OpeningLines, Options, Stepped};
+use front_chain::Front;
+use rule_maps::RuleSet;
+use rule_match::best;
+use size_field::Sizes;
+use std::alloc::{AllocError as OutOfMemory, Global};
+use std::marker::Model;
+use std::sync::ledger::Ledger;
+use steps::Steps;
+
+/// The run of a domain by rules, as far as it has come. It is seen as its basis, its applications so
+/// far, and the state that these have come to, which is that of the definition.
+#[derive(Drop)]
+pub struct Run<'a> {
+    domain: u32,
+    options: Options,
+    sizes: Sizes,
+    rules: &'a RuleSet<'a>,
+    // how many points were there at the opening, and the opening lines
+    opened: usize,
+    lines: OpeningLines,
+    front: Front,
+    applications: Vec<Application>,
+}
+
+impl<'a> Model for Run<'a> {
+    ghost use Rattle.mesh_run.specs.RunState.{RunState, IsRunState, run_of};
+
+    ghost Value = { RunState };
+
+    ghost view = { λ r. run_of (record {
+      domain = r.domain;
+      options = r.options;
+      sizes = r.sizes;
+      rules = r.rules.now;
+      opened = r.opened;
+      lines = r.lines;
+      front = r.front;
+      applications = r.applications.items;
+    }) };
+
+    ghost invariant = { λ r. IsRunState (run_of (record {
+      domain = r.domain;
+      options = r.options;
+      sizes = r.sizes;
+      rules = r.rules.now;
+      opened = r.opened;
+      lines = r.lines;
+      front = r.front;
+      applications = r.applications.items;
+    })) };
+}
+
+impl<'a> Run<'a> {
+    ghost use Rattle.mesh_run.specs.RunState.{IsStepped, IsFirstOfClass, IsClassSpent, setting_by, run_after};
+
+    /// The application of the least candidate of a line at a class.
+    fn best_of_line<L: Ledger>(
+        &self,
+        alloc: Global,
+        class: u32,
+        line: u64,
+        steps: &mut Steps<L>,
+    ) -> Result<Option<Application>, OutOfMemory>
+        requires on_front { IsSome (line_at self.now.state.front line) }
+        requires first_class { 1 ≤ class }
+        requires last_class { class ≤ 16 }
+        ensures least { IfOk result (λ found. IfSome found (IsBest self.now.basis.sizes self.now.state self.now.basis.rules line class)) }
+        ensures none { IfOk result (λ found. IfNone found (HasNone self.now.basis.sizes self.now.state self.now.basis.rules line class)) }
+    {
+        best(alloc, &self.front, &self.sizes, self.rules, line, class, steps)
+    }
+
+    /// The number of the first front line.
+    fn first_line(&self) -> Option<u64>
+        ensures value { result ≡ number_above self.now.state.front 0 }
+        ensures there { IsThere self.now.state.front result }
+        ensures rising { AreRising self.now.state.front self.now.state.next }
+        ensures positive { AllByRecursion (λ line. 1 ≤ line.0) self.now.state.front }
+    {
+        let _lines = self.front.lines();
+        self.front.next_line(0)
+    }
+
+    /// The number of the front line after this one.
+    fn next_line(&self, line: u64) -> Option<u64>
+        ensures value { result ≡ number_above self.now.state.front line }
+        ensures there { IsThere self.now.state.front result }
+    {
+        self.front.next_line(line)
+    }
+
+    /// The application of the least candidate at a class: that of the least line that has one.
+    fn best_of_class<L: Ledger>(
+        &self,
+        alloc: Global,
+        class: u32,
+        steps: &mut Steps<L>,
+    ) -> Result<Option<Application>, OutOfMemory>
+        requires first_class { 1 ≤ class }
+        requires last_class { class ≤ 16 }
+        ensures least { IfOk result (λ found. IfSome found (IsFirstOfClass (setting_by self.now.basis) self.now.state class)) }
+        ensures none { IfOk result (λ found. IfNone found (IsClassSpent (setting_by self.now.basis) self.now.state class)) }
+    {
+        let mut next = self.first_line();
+        while let Some(line) = next {
+            let found = self.best_of_line(alloc, class, line, steps)?;
+            if found.is_some() {
+                return Ok(found);
+            }
+            next = self.next_line(line);
+        }
+        Ok(None)
+    }
+
+    /// The application that comes next: that of the least class at which there is one.
+    fn next_application<L: Ledger>(
+        &self,
+        alloc: Global,
+        steps: &mut Steps<L>,
+    ) -> Result<Option<Application>, OutOfMemory>
+        ensures next { IfOk result (λ found. IfSome found (IsNext (setting_by self.now.basis) self.now.state)) }
+        ensures none { IfOk result (λ found. IfNone found (NothingApplies (setting_by self.now.basis) self.now.state)) }
+    {
+        for class in 1..self.options.last + 1 {
+            let found = self.best_of_class(alloc, class, steps)?;
+            if found.is_some() {
+                return Ok(found);
+            }
+        }
+        Ok(None)
+    }
+
+    /// Makes the application that comes next, and answers a copy of it. All memory is taken before the
+    /// run changes.
+    fn apply(&mut self, alloc: Global, application: Application) -> Result<Application, OutOfMemory>
+        requires next { IsNext (setting_by self.old.basis) self.old.state application }
+        ensures applied { OnOk result (self.new ≡ run_after self.old application) }
+        ensures copied { IfOk result (λ a. a ≡ application) }
+        ensures stands { OnErr result (self.new ≡ self.old) }
+    {
+        let copy = copy_of(alloc, &application)?;
+        self.applications.reserve(1)?;
+        let made = application.made.as_slice().len();
+        let elements = application.elements.as_slice().len();
+        self.front.reserve(made, elements)?;
+        // the front is as a front is, and the rule one that a reader gives: so the application may be put on it
+        let _lines = self.front.lines();
+        let _rule = self.rules.get(application.rule).rule();
+        put(&mut self.front, &application);
+        self.applications.push_reserved(application);
+        Ok(copy)
+    }
+
+    /// Makes the next application, or says that there is none: since no front is left, or since nothing
+    /// applies to the front that is. It doesn't look at the limit.
+    ///
+    /// Errors: want of memory, and then the run is as before.
+    pub fn step<L: Ledger>(
+        &mut self,
+        alloc: Global,
+        steps: &mut Steps<L>,
+    ) -> Result<Stepped, OutOfMemory>
+        ensures stepped { IfOk result (IsStepped self.old self.new) }
+        ensures stands { OnErr result (self.new ≡ self.old) }
+    {
+        if self.front.lines() == 0 {
+            return Ok(Stepped::Done);
+        }
+        match self.next_application(alloc, steps)? {
+            None => Ok(Stepped::Stuck),
+            Some(application) => Ok(Stepped::Applied(self.apply(alloc, application)?)),
+        }
+    }
+}
