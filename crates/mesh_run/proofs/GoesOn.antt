@@ -1,27 +1,33 @@
 -- A run goes on by one application: it may be put on the front, and the state is then that of the definition.
-use Rattle.std.proofs.Common.{◌≡◌, ℕ, suc, ◌+◌, ◌-◌, ◌≤◌, List, [], ◌∷◌, ◌++◌, length, take, slice_index_or, refl, sym, ap, ◌∙◌, subst, arith, length-append, append_assoc, Some}
+use Rattle.std.proofs.Common.{◌≡◌, ℕ, zero, suc, ◌+◌, ◌-◌, ◌<◌, ◌≤◌, ℤ, pos, negsuc, ◌+ℤ◌, ◌≤ℤ◌, map, List, [], ◌∷◌, ◌++◌, length, take, slice_index_or, refl, sym, ap, ◌∙◌, subst, arith, length-append, append_assoc, Option, None, Some, ◌⊎◌, inl, inr}
 use Rattle.std.specs.List.{All, AllByRecursion}
-use Rattle.std.proofs.lemmas.List.{append-nil, take-append-le}
+use Rattle.std.proofs.lemmas.List.{append-nil, take-append-le, length-map, length_push}
+use Rattle.std.proofs.lemmas.Int.{ints}
 use Rattle.std.proofs.lemmas.List.Elements.{All-from_recursion, All-weaker, All-push}
 use Rattle.std.proofs.lemmas.Option.{get_or_from_slice_get}
 use Rattle.grid_geom.specs.declared.Point.{Point}
+use Rattle.grid_geom.specs.declared.Edge.{Edge}
+use Rattle.grid_geom.specs.Area.{shoelace}
 use Rattle.rule_reader.specs.declared.rule.Rule.{Rule}
 use Rattle.rule_reader.specs.Normal.{IsRule}
 use Rattle.size_field.specs.Size.{SizeField}
-use Rattle.state_law.specs.State.{State, IsListed, number_sides, glue_lines, next_after_all, glued}
+use Rattle.state_law.specs.State.{State, IsListed, number_sides, glue_lines, next_after_all, glued, front_edges}
 use Rattle.state_law.proofs.Region.{kept_of}
-use Rattle.front_chain.specs.Front.{FrontState, IsFrontState, edges_of, state_of}
+use Rattle.front_chain.specs.Front.{FrontState, IsFrontState, edges_of, state_of, or_zero}
 use Rattle.admission.specs.Admission.{glued_on}
 use Rattle.admission.proofs.Order.{same_points}
 use Rattle.rule_match.specs.declared.application.Application.{Application}
+use Rattle.rule_match.specs.Applied.{numbers_from}
+use Rattle.rule_match.specs.Candidate.{nth, made}
 use Rattle.rule_match.specs.Best.{IsBest}
+use Rattle.mesh_run.specs.declared.stepped.Stepped.TheVariants.{Applied}
 use Rattle.mesh_run.specs.Boundary.{IsNumberTo}
 use Rattle.mesh_run.specs.Opening.{front_from}
-use Rattle.mesh_run.specs.Steps.{RunSetting, IsNext, applied, with_points, state_after, AreNext}
-use Rattle.mesh_run.specs.Reached.{IsReached, MayBeApplied}
-use Rattle.mesh_run.specs.RunState.{RunState, RunParts, IsRunState, DoName, setting_by, elements_made, with_elements, run_of, run_after}
+use Rattle.mesh_run.specs.Steps.{RunSetting, IsNext, applied, with_points, state_after, AreNext, IsSpent, IsWithin}
+use Rattle.mesh_run.specs.Reached.{IsReached, MayBeApplied, front_at}
+use Rattle.mesh_run.specs.RunState.{RunBasis, RunState, RunParts, IsRunState, IsStepped, GoesOn, DoName, setting_by, elements_made, with_elements, run_of, run_after, area_left}
 use Rattle.mesh_run.proofs.SameState.{AreSame, same_best}
-use Rattle.mesh_run.proofs.Steps.{may_apply}
+use Rattle.mesh_run.proofs.Steps.{may_apply, area_after}
 
 -- ---- what comes next may be put on the front
 -- a front and no element are what a run keeps, with the front as the boundary
@@ -165,3 +171,61 @@ pub put_holds : (p : RunParts) (a : Application) (same after : FrontState) (appl
 put_holds p a same after applications held next may h =
     let listed = subst (λ (ps : List Point). AllByRecursion (λ ns. AllByRecursion (IsListed (length (ps ++ a.made))) ns) a.elements) h.equal.points may.listed in
     subst IsRunState (sym (put_run p a same after applications held.grows h)) (run_goes_on (run_of p) a held next listed)
+
+-- ---- the area that is left
+-- a live rule has an element, so an application has one
+pub some_elements : (sizes : SizeField) (rules : List Rule) (st : State) (a : Application) → IsBest sizes st rules a.line a.class a → 1 ≤ length a.elements
+some_elements sizes rules st a b =
+    let t = b.attempt in
+    let count : length a.elements ≡ length t.text.elements = ap (λ (x : Application). length x.elements) b.gives ∙ length-map t.text.elements (map (nth (t.points ++ numbers_from (length st.points) (made st t)))) in
+    positive (length a.elements) (length t.text.elements) count b.least.candidate.live.some_element
+  where
+    positive : (m n : ℕ) → m ≡ n → (n ≡ 0 → ⊥) → 1 ≤ m
+    positive m zero e h = absurd (h refl)
+    positive m (suc n) e h = omega (arith, e)
+
+falls_to : (before after : ℤ) (count : ℕ) → 1 ≤ count → (after +ℤ pos count) ≤ℤ before → pos 0 ≤ℤ after → or_zero after < or_zero before
+falls_to (pos m) (pos n) count c f l = omega (arith, ints, c, f)
+falls_to (negsuc m) (pos n) count c f l = absurd (omega (arith, ints, c, f))
+falls_to before (negsuc n) count c f l = absurd (omega (arith, ints, l))
+
+pub area_falls : (p : RunParts) (a : Application) (same after : FrontState) (applications : List Application) → IsFrontState same → IsPushed p a same after applications → MayBeApplied (state_of same) a → 1 ≤ length a.elements
+    → area_left (run_of (record p { front = after; applications = applications })) < area_left (run_of p)
+area_falls p a same after applications h pushed may some =
+    let taken = area_after (edges_of same) (state_of same) a (of_front same h) may in
+    let points : after.points ≡ (applied (state_of same) a).points = pushed.put.points ∙ sym (same_points (with_points (state_of same) a.made) a.elements) in
+    let later : edges_of after ≡ front_at (applied (state_of same) a) = λ i. front_edges (points i) (pushed.put.lines i) in
+    let sooner : edges_of p.front ≡ front_at (state_of same) = λ i. front_edges (sym pushed.equal.points i) (sym pushed.equal.lines i) in
+    subst (λ (es : List Edge). or_zero (shoelace es) < area_left (run_of p)) (sym later)
+    (subst (λ (es : List Edge). or_zero (shoelace (front_at (applied (state_of same) a))) < or_zero (shoelace es)) (sym sooner)
+    (falls_to (shoelace (front_at (state_of same))) (shoelace (front_at (applied (state_of same) a))) (length a.elements) some taken.falls (taken.left some)))
+
+-- ---- steps one after another
+goes_to : (r : RunState) (before more : List Application) (a : Application) → r.applications ≡ before ++ more → r.applications ++ a ∷ [] ≡ before ++ (more ++ a ∷ [])
+goes_to r before more a e = ap (λ (applications : List Application). applications ++ a ∷ []) e ∙ append_assoc before more (a ∷ [])
+
+one_more_within : (limit : Option ℕ) (n m : ℕ) → ¬ (IsSpent limit n) → m ≡ n + 1 → IsWithin limit m
+one_more_within None n m h e = tt
+one_more_within (Some limit) n m h e = by (compared limit n)
+  where
+    compared : (limit n : ℕ) → (limit ≤ n) ⊎ (n < limit)
+    compared limit n = grind arith
+
+    by : (limit ≤ n) ⊎ (n < limit) → m ≤ limit
+    by (inl l) = absurd (h l)
+    by (inr l) = omega (arith, l, e)
+
+pub goes_further : (before between after : RunState) (a : Application) → GoesOn before between → ¬ (IsSpent between.basis.options.limit (length between.applications)) → IsStepped between after (Applied a) → GoesOn before after
+goes_further before between after a h open_still step =
+    let basis : between.basis ≡ before.basis = h.basis in
+    let next : IsNext (setting_by before.basis) (state_after before.state h.more) a =
+    subst (λ (st : State). IsNext (setting_by before.basis) st a) h.state (subst (λ (b : RunBasis). IsNext (setting_by b) between.state a) basis step.0) in
+    subst (GoesOn before) (sym step.1) (record {
+      basis = h.basis;
+      more = h.more ++ a ∷ [];
+      applications = goes_to between before.applications h.more a h.applications;
+      next_ones = next_push (setting_by before.basis) before.state h.more a h.next_ones next;
+      state = ap (λ (st : State). applied st a) h.state ∙ sym (after_push before.state h.more a);
+      within = inr (subst (λ (b : RunBasis). IsWithin b.options.limit (length (between.applications ++ a ∷ []))) basis
+          (one_more_within between.basis.options.limit (length between.applications) (length (between.applications ++ a ∷ [])) open_still (length_push between.applications a)));
+    })

@@ -5,13 +5,15 @@
 -- RunParts     what a run holds; run_of, the run that it makes
 -- IsRunState   the state is that of the definition after these applications, each of which was the next one
 -- IsFirstOfClass, IsClassSpent   what the search knows of one class
--- IsStepped    what a step makes of a run, by what it says
-use Rattle.std.specs.Prelude.{ℕ, ◌≡◌, ◌≢◌, ◌+◌, ◌<◌, ◌≤◌, List, [], ◌∷◌, ◌++◌, length, take, Option, Some, None}
+-- IsStepped    what a step makes of a run, by what it says; DoesTakeArea, that it takes from the front's area
+-- GoesOn       what steps one after another make of a run; IsEndOfRun, how it ends
+use Rattle.std.specs.Prelude.{ℕ, ◌≡◌, ◌≢◌, ◌⊎◌, ◌+◌, ◌<◌, ◌≤◌, List, [], ◌∷◌, ◌++◌, length, take, Option, Some, None}
 use Rattle.std.specs.List.{All}
+use Rattle.grid_geom.specs.Area.{shoelace}
 use Rattle.rule_reader.specs.declared.rule.Rule.{Rule}
 use Rattle.size_field.specs.Size.{SizeField, AreLimits}
 use Rattle.state_law.specs.State.{State}
-use Rattle.front_chain.specs.Front.{FrontState}
+use Rattle.front_chain.specs.Front.{FrontState, or_zero}
 use Rattle.rule_match.specs.declared.application.Application.{Application}
 use Rattle.rule_match.specs.Least.{HasNone}
 use Rattle.rule_match.specs.Best.{IsBest}
@@ -20,7 +22,9 @@ use Rattle.mesh_run.specs.Boundary.{IsNumberTo}
 use Rattle.mesh_run.specs.Opening.{front_from}
 use Rattle.mesh_run.specs.declared.stepped.Stepped.{Stepped}
 use Rattle.mesh_run.specs.declared.stepped.Stepped.TheVariants.{Applied, Done, Stuck}
-use Rattle.mesh_run.specs.Steps.{RunSetting, IsNext, NothingApplies, applied, state_after, AreNext}
+use Rattle.mesh_run.specs.declared.End.{End}
+use Rattle.mesh_run.specs.Reached.{front_at}
+use Rattle.mesh_run.specs.Steps.{RunSetting, IsNext, NothingApplies, applied, state_after, AreNext, IsEndOf, IsWithin}
 
 -- `opened` of the points were there at the opening
 pub record RunBasis : Type 0 where
@@ -127,3 +131,27 @@ abbrev pub IsStepped : RunState → RunState → Stepped → Type 0
 IsStepped before after (Applied a) = IsNext (setting_by before.basis) before.state a × (after ≡ run_after before a)
 IsStepped before after Done = (before.state.front ≡ []) × (after ≡ before)
 IsStepped before after Stuck = (before.state.front ≢ []) × NothingApplies (setting_by before.basis) before.state × (after ≡ before)
+
+-- the doubled area of a run's front, read as 0 where it is below 0
+abbrev pub area_left : RunState → ℕ
+area_left r = or_zero (shoelace (front_at r.state))
+
+-- an application takes from this area
+abbrev pub DoesTakeArea : RunState → RunState → Stepped → Type 0
+DoesTakeArea before after (Applied a) = area_left after < area_left before
+DoesTakeArea before after Done = Unit {0}
+DoesTakeArea before after Stuck = Unit {0}
+
+-- ---- steps one after another
+-- the run has gone on: more applications were made, each of which was the next one, and not beyond the limit
+pub record GoesOn (before after : RunState) : Type 0 where
+  pub basis : after.basis ≡ before.basis
+  pub more : List Application
+  pub applications : after.applications ≡ before.applications ++ more
+  pub next_ones : AreNext (setting_by before.basis) before.state more
+  pub state : after.state ≡ state_after before.state more
+  pub within : (more ≡ []) ⊎ IsWithin before.basis.options.limit (length after.applications)
+
+-- how a run ends in the state that it has come to
+abbrev pub IsEndOfRun : RunState → End → Type 0
+IsEndOfRun r end = IsEndOf (setting_by r.basis) r.basis.options.limit r.state (length r.applications) end

@@ -1,15 +1,15 @@
 // The run of a domain by rules.
-ghost use Rattle.std.specs.Prelude.{◌≡◌, ◌≤◌, IsSome, IfOk, IfSome, IfNone, OnOk, OnErr};
+ghost use Rattle.std.specs.Prelude.{◌≡◌, ◌<◌, ◌≤◌, ◌↔◌, length, IsTrue, IsSome, IfOk, IfSome, IfNone, OnOk, OnErr};
 ghost use Rattle.std.specs.List.{AllByRecursion};
 ghost use Rattle.state_law.specs.State.{AreRising};
 ghost use Rattle.front_chain.specs.Front.{line_at, number_above};
 ghost use Rattle.admission.specs.Around.{IsThere};
 ghost use Rattle.rule_match.specs.Best.{IsBest};
 ghost use Rattle.rule_match.specs.Least.{HasNone};
-ghost use Rattle.mesh_run.specs.Steps.{IsNext, NothingApplies};
+ghost use Rattle.mesh_run.specs.Steps.{IsNext, NothingApplies, IsSpent};
 
 use super::applying::{copy_of, put};
-use super::{Application, OpeningLines, Options, Stepped};
+use super::{Application, End, OpeningLines, Options, Stepped};
 use front_chain::Front;
 use rule_maps::RuleSet;
 use rule_match::best;
@@ -63,7 +63,7 @@ impl<'a> Model for Run<'a> {
 }
 
 impl<'a> Run<'a> {
-    ghost use Rattle.mesh_run.specs.RunState.{IsStepped, IsFirstOfClass, IsClassSpent, setting_by, run_after};
+    ghost use Rattle.mesh_run.specs.RunState.{IsStepped, DoesTakeArea, GoesOn, IsEndOfRun, IsFirstOfClass, IsClassSpent, area_left, setting_by, run_after};
 
     /// The application of the least candidate of a line at a class.
     fn best_of_line<L: Ledger>(
@@ -148,6 +148,7 @@ impl<'a> Run<'a> {
         requires next { IsNext (setting_by self.old.basis) self.old.state application }
         ensures applied { OnOk result (self.new ≡ run_after self.old application) }
         ensures copied { IfOk result (λ a. a ≡ application) }
+        ensures falls { OnOk result (area_left self.new < area_left self.old) }
         ensures stands { OnErr result (self.new ≡ self.old) }
     {
         let copy = copy_of(alloc, &application)?;
@@ -173,6 +174,7 @@ impl<'a> Run<'a> {
         steps: &mut Steps<L>,
     ) -> Result<Stepped, OutOfMemory>
         ensures stepped { IfOk result (IsStepped self.old self.new) }
+        ensures falls { IfOk result (DoesTakeArea self.old self.new) }
         ensures stands { OnErr result (self.new ≡ self.old) }
     {
         if self.front.lines() == 0 {
@@ -182,5 +184,47 @@ impl<'a> Run<'a> {
             None => Ok(Stepped::Stuck),
             Some(application) => Ok(Stepped::Applied(self.apply(alloc, application)?)),
         }
+    }
+
+    /// Whether as many applications were made as are allowed.
+    fn is_spent(&self) -> bool
+        ensures { IsTrue result ↔ IsSpent self.now.basis.options.limit (length self.now.applications) }
+    {
+        match self.options.limit {
+            Some(limit) => limit <= self.applications.len() as u64,
+            None => false,
+        }
+    }
+
+    /// How the run ends that may make no further application: stopped only where there is one to make.
+    fn end_here<L: Ledger>(&self, alloc: Global, steps: &mut Steps<L>) -> Result<End, OutOfMemory>
+        requires { IsSpent self.now.basis.options.limit (length self.now.applications) }
+        ensures { IfOk result (IsEndOfRun self.now) }
+    {
+        if self.front.lines() == 0 {
+            return Ok(End::Done);
+        }
+        match self.next_application(alloc, steps)? {
+            Some(_) => Ok(End::Stopped),
+            None => Ok(End::Stuck),
+        }
+    }
+
+    /// Makes one application after another until no front is left, nothing applies, or as many were made
+    /// as are allowed. Each takes at least 1 from the front's doubled area, so it ends.
+    ///
+    /// Errors: want of memory, and then the run has gone on as far as memory went.
+    pub fn run<L: Ledger>(&mut self, alloc: Global, steps: &mut Steps<L>) -> Result<End, OutOfMemory>
+        ensures goes_on { GoesOn self.old self.new }
+        ensures ended { IfOk result (IsEndOfRun self.new) }
+    {
+        while !self.is_spent() {
+            match self.step(alloc, steps)? {
+                Stepped::Applied(_) => {}
+                Stepped::Done => return Ok(End::Done),
+                Stepped::Stuck => return Ok(End::Stuck),
+            }
+        }
+        self.end_here(alloc, steps)
     }
 }
