@@ -21,3 +21,5 @@ pub mod Searched
 pub mod Put
 -- GoesOn: a run goes on by one application.
 pub mod GoesOn
+-- OpenedRun: a run before its first application.
+pub mod OpenedRun

@@ -7,10 +7,12 @@
 -- IsFirstOfClass, IsClassSpent   what the search knows of one class
 -- IsStepped    what a step makes of a run, by what it says; DoesTakeArea, that it takes from the front's area
 -- GoesOn       what steps one after another make of a run; IsEndOfRun, how it ends
+-- opened_run   the run at its opening; domain_run, what is kept of it at its end
 use Rattle.std.specs.Prelude.{ℕ, ◌≡◌, ◌≢◌, ◌⊎◌, ◌+◌, ◌<◌, ◌≤◌, List, [], ◌∷◌, ◌++◌, length, take, Option, Some, None}
 use Rattle.std.specs.List.{All}
 use Rattle.grid_geom.specs.Area.{shoelace}
 use Rattle.rule_reader.specs.declared.rule.Rule.{Rule}
+use Rattle.geom_check.specs.Geometry.{PlanarMap}
 use Rattle.size_field.specs.Size.{SizeField, AreLimits}
 use Rattle.state_law.specs.State.{State}
 use Rattle.front_chain.specs.Front.{FrontState, or_zero}
@@ -19,7 +21,9 @@ use Rattle.rule_match.specs.Least.{HasNone}
 use Rattle.rule_match.specs.Best.{IsBest}
 use Rattle.mesh_run.specs.declared.Options.{Options}
 use Rattle.mesh_run.specs.Boundary.{IsNumberTo}
-use Rattle.mesh_run.specs.Opening.{front_from}
+use Rattle.mesh_run.specs.declared.domain_run.DomainRun.{DomainRun}
+use Rattle.mesh_run.specs.Opening.{front_from, opening_lines}
+use Rattle.mesh_run.specs.Runs.{pieces_by, opening_of, setting_of}
 use Rattle.mesh_run.specs.declared.stepped.Stepped.{Stepped}
 use Rattle.mesh_run.specs.declared.stepped.Stepped.TheVariants.{Applied, Done, Stuck}
 use Rattle.mesh_run.specs.declared.End.{End}
@@ -155,3 +159,31 @@ pub record GoesOn (before after : RunState) : Type 0 where
 -- how a run ends in the state that it has come to
 abbrev pub IsEndOfRun : RunState → End → Type 0
 IsEndOfRun r end = IsEndOf (setting_by r.basis) r.basis.options.limit r.state (length r.applications) end
+
+-- ---- the run at its opening, and what is left of it at its end
+abbrev pub basis_of : PlanarMap → List Rule → Options → ℕ → RunBasis
+basis_of g rules options d = record {
+  domain = d;
+  options = options;
+  sizes = (setting_of g rules options d).sizes;
+  rules = rules;
+  opened = length (opening_of g options d).points;
+  lines = opening_lines d g.segments (pieces_by g options);
+  opening = opening_of g options d;
+}
+
+-- the run of a domain before its first application
+abbrev pub opened_run : PlanarMap → List Rule → Options → ℕ → RunState
+opened_run g rules options d = record { basis = basis_of g rules options d; applications = []; state = opening_of g options d }
+
+-- the run as it is kept when it is over
+abbrev pub domain_run : RunState → End → DomainRun
+domain_run r end = record {
+  domain = r.basis.domain;
+  points = r.state.points;
+  opened = r.basis.opened;
+  lines = r.basis.lines;
+  applications = r.applications;
+  front = r.state.front;
+  end = end;
+}

@@ -9,12 +9,14 @@
 //! 5. What a run without rules and its mesh are is given exactly; the definitions stand in specs/.
 #![tactic(auto)]
 
+mod all;
 mod application;
 mod applying;
 mod boundary;
 mod domain_run;
 mod gate;
 pub mod laws;
+mod left;
 mod lists;
 mod mesh;
 mod numbering;
@@ -23,6 +25,7 @@ mod run;
 mod stepped;
 mod whole;
 
+pub use all::run_all;
 pub use application::{Application, Applications};
 pub use boundary::uncut;
 pub use domain_run::{DomainRun, DomainRuns};

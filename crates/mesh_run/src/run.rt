@@ -1,19 +1,29 @@
 // The run of a domain by rules.
 ghost use Rattle.std.specs.Prelude.{◌≡◌, ◌<◌, ◌≤◌, ◌↔◌, length, IsTrue, IsSome, IfOk, IfSome, IfNone, OnOk, OnErr};
-ghost use Rattle.std.specs.List.{AllByRecursion};
+ghost use Rattle.std.specs.List.{AllByRecursion, Contains};
+ghost use Rattle.geom_check.specs.Domains.{domain_numbers};
 ghost use Rattle.state_law.specs.State.{AreRising};
 ghost use Rattle.front_chain.specs.Front.{line_at, number_above};
 ghost use Rattle.admission.specs.Around.{IsThere};
 ghost use Rattle.rule_match.specs.Best.{IsBest};
 ghost use Rattle.rule_match.specs.Least.{HasNone};
+ghost use Rattle.mesh_run.specs.Mesh.{NamesItsPoints};
+ghost use Rattle.mesh_run.specs.Opening.{mesh_points};
+ghost use Rattle.mesh_run.specs.Runs.{pieces_by};
 ghost use Rattle.mesh_run.specs.Steps.{IsNext, NothingApplies, IsSpent};
 
 use super::applying::{copy_of, put};
-use super::{Application, End, OpeningLines, Options, Stepped};
+use super::left::{points_of, rows_of};
+use super::opening::{number_mesh, opening_of};
+use super::{
+    Application, Applications, DomainRun, End, FrontRows, OpeningLines, Options, Stepped,
+};
 use front_chain::Front;
+use geom_check::Geometry;
+use grid_geom::{Point, Points};
 use rule_maps::RuleSet;
 use rule_match::best;
-use size_field::Sizes;
+use size_field::{Pieces, Sizes, sizes_of};
 use std::alloc::{AllocError as OutOfMemory, Global};
 use std::marker::Model;
 use std::sync::ledger::Ledger;
@@ -63,7 +73,61 @@ impl<'a> Model for Run<'a> {
 }
 
 impl<'a> Run<'a> {
-    ghost use Rattle.mesh_run.specs.RunState.{IsStepped, DoesTakeArea, GoesOn, IsEndOfRun, IsFirstOfClass, IsClassSpent, area_left, setting_by, run_after};
+    ghost use Rattle.mesh_run.specs.RunState.{IsStepped, DoesTakeArea, GoesOn, IsEndOfRun, IsFirstOfClass, IsClassSpent, AreOptions, area_left, domain_run, opened_run, setting_by, run_after};
+
+    /// The run of a domain before its first application. `mesh` are the mesh points of the pieces.
+    pub fn open_on(
+        alloc: Global,
+        pieces: &Pieces,
+        mesh: &[Point],
+        g: &Geometry,
+        rules: &'a RuleSet<'a>,
+        domain: u32,
+        options: &Options,
+    ) -> Result<Run<'a>, OutOfMemory>
+        requires domain { Contains (domain_numbers g.now.segments) domain }
+        requires options { AreOptions options.now }
+        requires pieces { pieces.now ≡ pieces_by g.now options.now }
+        requires mesh { mesh.now ≡ mesh_points pieces.now }
+        ensures { IfOk result (λ run. run ≡ opened_run g.now rules.now options.now domain) }
+    {
+        let opening = opening_of(alloc, domain, g.segments(), pieces.as_slice(), mesh)?;
+        let points = opening.points.as_slice();
+        let opened = points.len();
+        let front = Front::open(alloc, points, opening.lines.as_slice())?;
+        let sizes = sizes_of(alloc, g, pieces, domain, options.greatest, options.grading)?;
+        Ok(Run {
+            domain,
+            options: *options,
+            sizes,
+            rules,
+            opened,
+            lines: opening.lines,
+            front,
+            applications: Vec::new(alloc),
+        })
+    }
+
+    /// The run of a domain of the geometry before its first application.
+    ///
+    /// The pieces are those into which the options' sizes cut the geometry's segments, the options in
+    /// their ranges.
+    pub fn open(
+        alloc: Global,
+        pieces: &Pieces,
+        g: &Geometry,
+        rules: &'a RuleSet<'a>,
+        domain: u32,
+        options: &Options,
+    ) -> Result<Run<'a>, OutOfMemory>
+        requires domain { Contains (domain_numbers g.now.segments) domain }
+        requires options { AreOptions options.now }
+        requires pieces { pieces.now ≡ pieces_by g.now options.now }
+        ensures { IfOk result (λ run. run ≡ opened_run g.now rules.now options.now domain) }
+    {
+        let mesh = number_mesh(alloc, pieces.as_slice())?.points(alloc)?;
+        Run::open_on(alloc, pieces, &mesh, g, rules, domain, options)
+    }
 
     /// The application of the least candidate of a line at a class.
     fn best_of_line<L: Ledger>(
@@ -226,5 +290,23 @@ impl<'a> Run<'a> {
             }
         }
         self.end_here(alloc, steps)
+    }
+
+    /// What is kept of the run, with its end.
+    pub fn into_domain_run(self, alloc: Global, end: End) -> Result<DomainRun, OutOfMemory>
+        ensures run { IfOk result (λ run. run ≡ domain_run self end) }
+        ensures names { OnOk result (NamesItsPoints (domain_run self end)) }
+    {
+        let points = points_of(alloc, &self.front)?;
+        let front = rows_of(alloc, &self.front)?;
+        Ok(DomainRun {
+            domain: self.domain,
+            points: Points::from_vec(points),
+            opened: self.opened,
+            lines: self.lines,
+            applications: Applications::from_vec(self.applications),
+            front: FrontRows::from_vec(front),
+            end,
+        })
     }
 }
