@@ -23,3 +23,5 @@ pub mod Put
 pub mod GoesOn
 -- OpenedRun: a run before its first application.
 pub mod OpenedRun
+-- Zipped: lists in step with each other.
+pub mod Zipped

@@ -294,8 +294,8 @@ impl<'a> Run<'a> {
 
     /// What is kept of the run, with its end.
     pub fn into_domain_run(self, alloc: Global, end: End) -> Result<DomainRun, OutOfMemory>
-        ensures run { IfOk result (λ run. run ≡ domain_run self end) }
-        ensures names { OnOk result (NamesItsPoints (domain_run self end)) }
+        ensures run { IfOk result (λ run. run ≡ domain_run self.entry end) }
+        ensures names { OnOk result (NamesItsPoints (domain_run self.entry end)) }
     {
         let points = points_of(alloc, &self.front)?;
         let front = rows_of(alloc, &self.front)?;
