@@ -1,15 +1,13 @@
 -- The opening of a domain, step by step.
-use Rattle.std.proofs.Common.{◌≡◌, ℕ, List, [], map, filter, length, ap, ◌∙◌}
+use Rattle.std.proofs.Common.{◌≡◌, ℕ, List, map, filter, ap, ◌∙◌}
 use Rattle.grid_geom.specs.declared.Point.{Point}
 use Rattle.grid_geom.specs.declared.Edge.{Edge}
 use Rattle.geom_check.specs.declared.kinds.Segment.{Segment}
 use Rattle.size_field.specs.declared.pieces.Piece.{Piece}
-use Rattle.mesh_run.specs.declared.End.{End}
-use Rattle.rule_match.specs.declared.application.Application.{Application}
 use Rattle.mesh_run.specs.Boundary.{piece_boundary, piece_edge}
 use Rattle.mesh_run.specs.Numbering.{by_first_occurrence, ends_of, is_among}
 use Rattle.mesh_run.proofs.Listed.{among_first, first_again}
-use Rattle.mesh_run.specs.Opening.{mesh_points, domain_points, numbered, opening_lines, front_from, end_of_front, unmeshed_run}
+use Rattle.mesh_run.specs.Opening.{mesh_points, domain_points, numbered, opening_lines}
 
 -- the numbering of the domain's points, by way of the ends of its boundary
 pub points_are : (d : ℕ) (segments : List Segment) (pieces : List Piece) (mesh ends points : List Point) (boundary : List Edge)

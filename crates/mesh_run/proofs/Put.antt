@@ -1,5 +1,5 @@
 -- An application put on a front, point by point and element by element: each point is at a new place when it is listed, each element may be glued when it is.
-use Rattle.std.proofs.Common.{◌≡◌, ℕ, suc, ◌+◌, ◌<◌, List, [], ◌∷◌, ◌++◌, length, take, drop, slice_index_or, refl, sym, ap, ◌∙◌, subst, None, arith, length-append, add-one}
+use Rattle.std.proofs.Common.{◌≡◌, ℕ, ◌+◌, ◌<◌, List, [], ◌∷◌, ◌++◌, length, take, drop, slice_index_or, sym, ap, ◌∙◌, subst, None, arith, length-append}
 use Rattle.std.specs.List.{AllByRecursion, IsDistinct}
 use Rattle.std.proofs.lemmas.List.{append-nil, take-append-drop, drop_more, take_more, get_or-append-add}
 use Rattle.std.proofs.lemmas.List.Elements.{All-from_recursion, All-get_or}
@@ -9,7 +9,7 @@ use Rattle.grid_geom.specs.Closed.{same_point}
 use Rattle.state_law.specs.State.{State, IsListed, glued}
 use Rattle.front_chain.specs.Front.{FrontState, IsGluable, number_of, state_of}
 use Rattle.front_chain.proofs.Places.{fresh_number}
-use Rattle.admission.specs.Admission.{entered, glued_on, MayFollow, HasGlued}
+use Rattle.admission.specs.Admission.{entered, MayFollow, HasGlued}
 use Rattle.admission.proofs.Answered.{gluable, leads_on}
 
 -- the k-th new point is at no listed place when those before it are listed

@@ -1,12 +1,11 @@
 -- What applies to a state depends on its points and its front alone: not on the next line number, nor on the elements.
-use Rattle.std.proofs.Common.{◌≡◌, ℕ, List, refl, subst, Option, Some, None, Result, Ok, Err, IfOk, IfSome, IfNone, is_some, false}
-use Rattle.grid_geom.specs.declared.Point.{Point}
+use Rattle.std.proofs.Common.{◌≡◌, ℕ, List, subst, Option, Some, None, Result, Ok, Err, IfOk, IfSome, IfNone, is_some, false}
 use Rattle.rule_reader.specs.declared.rule.Rule.{Rule}
 use Rattle.size_field.specs.Size.{SizeField}
 use Rattle.state_law.specs.State.{State}
 use Rattle.rule_match.specs.declared.application.Application.{Application}
 use Rattle.rule_match.specs.Candidate.{Attempt, IsCandidate}
-use Rattle.rule_match.specs.Least.{IsOf, IsLeast, HasNone}
+use Rattle.rule_match.specs.Least.{IsOf, HasNone}
 use Rattle.rule_match.specs.Best.{IsBest}
 
 -- the two states have the same points and the same front

@@ -63,11 +63,21 @@ elements_made (a ∷ more) = a.elements ++ elements_made more
 
 -- a front as a state with these elements
 abbrev pub with_elements : FrontState → List (List ℕ) → State
-with_elements f elements = record { points = f.points; front = f.lines; next = f.next; elements = elements }
+with_elements f elements = record {
+  points = f.points;
+  front = f.lines;
+  next = f.next;
+  elements = elements;
+}
 
 -- the state with which a run began
 abbrev pub began : RunParts → State
-began p = record { points = take p.opened p.front.points; front = front_from 1 p.lines; next = 1 + length p.lines; elements = [] }
+began p = record {
+  points = take p.opened p.front.points;
+  front = front_from 1 p.lines;
+  next = 1 + length p.lines;
+  elements = [];
+}
 
 -- the run that these parts make
 abbrev pub run_of : RunParts → RunState
@@ -127,14 +137,20 @@ pub record IsClassSpent (s : RunSetting) (st : State) (class : ℕ) : Type 0 whe
 -- ---- steps
 -- the run after one more application
 abbrev pub run_after : RunState → Application → RunState
-run_after r a = record { basis = r.basis; applications = r.applications ++ a ∷ []; state = applied r.state a }
+run_after r a = record {
+  basis = r.basis;
+  applications = r.applications ++ a ∷ [];
+  state = applied r.state a;
+}
 
 -- what a step makes of a run, by what it says: it applies what comes next; or it says that no front is left, or that one is left and nothing
 -- applies, and changes nothing
 abbrev pub IsStepped : RunState → RunState → Stepped → Type 0
-IsStepped before after (Applied a) = IsNext (setting_by before.basis) before.state a × (after ≡ run_after before a)
+IsStepped before after (Applied a) = IsNext (setting_by before.basis) before.state a
+    × (after ≡ run_after before a)
 IsStepped before after Done = (before.state.front ≡ []) × (after ≡ before)
-IsStepped before after Stuck = (before.state.front ≢ []) × NothingApplies (setting_by before.basis) before.state × (after ≡ before)
+IsStepped before after Stuck = (before.state.front ≢ [])
+    × NothingApplies (setting_by before.basis) before.state × (after ≡ before)
 
 -- the doubled area of a run's front, read as 0 where it is below 0
 abbrev pub area_left : RunState → ℕ
@@ -158,7 +174,8 @@ pub record GoesOn (before after : RunState) : Type 0 where
 
 -- how a run ends in the state that it has come to
 abbrev pub IsEndOfRun : RunState → End → Type 0
-IsEndOfRun r end = IsEndOf (setting_by r.basis) r.basis.options.limit r.state (length r.applications) end
+IsEndOfRun r end = IsEndOf (setting_by r.basis) r.basis.options.limit r.state
+    (length r.applications) end
 
 -- ---- the run at its opening, and what is left of it at its end
 abbrev pub basis_of : PlanarMap → List Rule → Options → ℕ → RunBasis
@@ -174,7 +191,11 @@ basis_of g rules options d = record {
 
 -- the run of a domain before its first application
 abbrev pub opened_run : PlanarMap → List Rule → Options → ℕ → RunState
-opened_run g rules options d = record { basis = basis_of g rules options d; applications = []; state = opening_of g options d }
+opened_run g rules options d = record {
+  basis = basis_of g rules options d;
+  applications = [];
+  state = opening_of g options d;
+}
 
 -- the run as it is kept when it is over
 abbrev pub domain_run : RunState → End → DomainRun

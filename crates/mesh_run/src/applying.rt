@@ -34,7 +34,8 @@ fn list_points(front: &mut Front, made: &[Point])
 fn glue_elements(front: &mut Front, elements: &[Element])
     requires spare { length elements.now ≤ spare_elements front.old }
     requires triangles { AllByRecursion (λ ns. length ns ≡ 3) elements.now }
-    requires listed { AllByRecursion (λ ns. AllByRecursion (IsListed (length front.old.points)) ns) elements.now }
+    requires listed { AllByRecursion
+        (λ ns. AllByRecursion (IsListed (length front.old.points)) ns) elements.now }
     requires may { MayFollow (state_of front.old) elements.now }
     ensures points { front.new.points ≡ front.old.points }
     ensures lines { front.new.lines ≡ (glued_on (state_of front.old) elements.now).front }

@@ -39,7 +39,8 @@ fn line_after(front: &Front, line: u64) -> Option<u64>
 /// The line with this number, with the numbers of its ends.
 fn row_of(front: &Front, line: u64) -> (u64, u64, u64)
     requires { is_some (line_at front.now.lines line) ≡ true }
-    ensures { ahead front.now.lines (Some line) ≡ result ∷ ahead front.now.lines (number_above front.now.lines line) }
+    ensures { ahead front.now.lines (Some line)
+        ≡ result ∷ ahead front.now.lines (number_above front.now.lines line) }
 {
     let _lines = front.lines();
     let (from, to) = front.line(line).unwrap();

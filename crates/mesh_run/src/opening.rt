@@ -87,8 +87,10 @@ pub fn opening_of(
 ) -> Result<Opening, OutOfMemory>
     requires pieces { All (IsPieceOf segments.now) pieces.now }
     requires mesh { mesh.now ≡ mesh_points pieces.now }
-    ensures points { IfOk result (λ opening. opening.points ≡ domain_points domain segments.now pieces.now) }
-    ensures lines { IfOk result (λ opening. opening.lines ≡ opening_lines domain segments.now pieces.now) }
+    ensures points { IfOk result
+        (λ opening. opening.points ≡ domain_points domain segments.now pieces.now) }
+    ensures lines { IfOk result
+        (λ opening. opening.lines ≡ opening_lines domain segments.now pieces.now) }
 {
     let boundary = boundary_of(alloc, domain, segments, pieces)?;
     let ends = numbering_of_ends(alloc, &boundary)?;

@@ -15,9 +15,7 @@ ghost use Rattle.mesh_run.specs.Steps.{IsNext, NothingApplies, IsSpent};
 use super::applying::{copy_of, put};
 use super::left::{points_of, rows_of};
 use super::opening::{number_mesh, opening_of};
-use super::{
-    Application, Applications, DomainRun, End, FrontRows, OpeningLines, Options, Stepped,
-};
+use super::{Application, Applications, DomainRun, End, FrontRows, OpeningLines, Options, Stepped};
 use front_chain::Front;
 use geom_check::Geometry;
 use grid_geom::{Point, Points};
@@ -140,10 +138,22 @@ impl<'a> Run<'a> {
         requires on_front { IsSome (line_at self.now.state.front line) }
         requires first_class { 1 ≤ class }
         requires last_class { class ≤ 16 }
-        ensures least { IfOk result (λ found. IfSome found (IsBest self.now.basis.sizes self.now.state self.now.basis.rules line class)) }
-        ensures none { IfOk result (λ found. IfNone found (HasNone self.now.basis.sizes self.now.state self.now.basis.rules line class)) }
+        ensures least { IfOk result
+            (λ found. IfSome found
+            (IsBest self.now.basis.sizes self.now.state self.now.basis.rules line class)) }
+        ensures none { IfOk result
+            (λ found. IfNone found
+            (HasNone self.now.basis.sizes self.now.state self.now.basis.rules line class)) }
     {
-        best(alloc, &self.front, &self.sizes, self.rules, line, class, steps)
+        best(
+            alloc,
+            &self.front,
+            &self.sizes,
+            self.rules,
+            line,
+            class,
+            steps,
+        )
     }
 
     /// The number of the first front line.
@@ -174,8 +184,12 @@ impl<'a> Run<'a> {
     ) -> Result<Option<Application>, OutOfMemory>
         requires first_class { 1 ≤ class }
         requires last_class { class ≤ 16 }
-        ensures least { IfOk result (λ found. IfSome found (IsFirstOfClass (setting_by self.now.basis) self.now.state class)) }
-        ensures none { IfOk result (λ found. IfNone found (IsClassSpent (setting_by self.now.basis) self.now.state class)) }
+        ensures least { IfOk result
+            (λ found. IfSome found
+            (IsFirstOfClass (setting_by self.now.basis) self.now.state class)) }
+        ensures none { IfOk result
+            (λ found. IfNone found
+            (IsClassSpent (setting_by self.now.basis) self.now.state class)) }
     {
         let mut next = self.first_line();
         while let Some(line) = next {
@@ -194,8 +208,10 @@ impl<'a> Run<'a> {
         alloc: Global,
         steps: &mut Steps<L>,
     ) -> Result<Option<Application>, OutOfMemory>
-        ensures next { IfOk result (λ found. IfSome found (IsNext (setting_by self.now.basis) self.now.state)) }
-        ensures none { IfOk result (λ found. IfNone found (NothingApplies (setting_by self.now.basis) self.now.state)) }
+        ensures next { IfOk result
+            (λ found. IfSome found (IsNext (setting_by self.now.basis) self.now.state)) }
+        ensures none { IfOk result
+            (λ found. IfNone found (NothingApplies (setting_by self.now.basis) self.now.state)) }
     {
         for class in 1..self.options.last + 1 {
             let found = self.best_of_class(alloc, class, steps)?;
@@ -252,7 +268,8 @@ impl<'a> Run<'a> {
 
     /// Whether as many applications were made as are allowed.
     fn is_spent(&self) -> bool
-        ensures { IsTrue result ↔ IsSpent self.now.basis.options.limit (length self.now.applications) }
+        ensures { IsTrue result ↔ IsSpent self.now.basis.options.limit
+            (length self.now.applications) }
     {
         match self.options.limit {
             Some(limit) => limit <= self.applications.len() as u64,
@@ -278,7 +295,11 @@ impl<'a> Run<'a> {
     /// as are allowed. Each takes at least 1 from the front's doubled area, so it ends.
     ///
     /// Errors: want of memory, and then the run has gone on as far as memory went.
-    pub fn run<L: Ledger>(&mut self, alloc: Global, steps: &mut Steps<L>) -> Result<End, OutOfMemory>
+    pub fn run<L: Ledger>(
+        &mut self,
+        alloc: Global,
+        steps: &mut Steps<L>,
+    ) -> Result<End, OutOfMemory>
         ensures goes_on { GoesOn self.old self.new }
         ensures ended { IfOk result (IsEndOfRun self.new) }
     {

@@ -1,6 +1,5 @@
-use Rattle.std.proofs.Common.{◌≡◌, All, subst, sym, arith}
+use Rattle.std.proofs.Common.{All, subst, sym, arith}
 use Rattle.std.proofs.lemmas.List.Elements.{All-push}
-use Rattle.mesh_run.specs.declared.domain_run.DomainRun.{DomainRun}
 use Rattle.mesh_run.specs.Mesh.{NamesItsPoints}
 use Rattle.mesh_run.specs.Runs.{IsDomainRun}
 use Rattle.mesh_run.proofs.Zipped.{zip_more}

@@ -1,4 +1,4 @@
-use Rattle.std.proofs.Common.{subst, sym, ap, ◌∙◌}
+use Rattle.std.proofs.Common.{subst, sym}
 use Rattle.admission.specs.Around.{IsThere}
 use Rattle.admission.proofs.Ahead.{there_above}
 use Rattle.mesh_run.specs.RunState.{RunState}

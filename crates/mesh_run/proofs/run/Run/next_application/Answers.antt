@@ -1,4 +1,4 @@
-use Rattle.std.proofs.Common.{◌≡◌, ◌+◌, ◌<◌, ◌≤◌, IfSome, Option, Some, None, sym, ap, ◌∙◌, arith}
+use Rattle.std.proofs.Common.{◌≤◌, IfSome, Option, Some, None, sym, ap, ◌∙◌, arith}
 use Rattle.rule_match.specs.declared.application.Application.{Application}
 use Rattle.mesh_run.specs.Steps.{IsNext}
 use Rattle.mesh_run.specs.RunState.{RunState, IsFirstOfClass, IsClassSpent, setting_by}

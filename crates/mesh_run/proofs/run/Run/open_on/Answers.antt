@@ -1,4 +1,4 @@
-use Rattle.std.proofs.Common.{◌≡◌, ℕ, ◌+◌, List, length, ap, ◌∙◌}
+use Rattle.std.proofs.Common.{ℕ, ◌+◌, List, length, ap, ◌∙◌}
 use Rattle.size_field.proofs.AllPieces.{all_pieces}
 use Rattle.front_chain.specs.Front.{numbered_from}
 use Rattle.mesh_run.specs.Opening.{domain_points, opening_lines}

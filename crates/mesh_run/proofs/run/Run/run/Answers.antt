@@ -1,5 +1,4 @@
-use Rattle.std.proofs.Common.{◌≡◌, Bool, true, false, subst, IsTrue}
-use Rattle.mesh_run.specs.declared.stepped.Stepped.{Stepped}
+use Rattle.std.proofs.Common.{◌≡◌, Bool, false, subst, IsTrue}
 use Rattle.mesh_run.specs.RunState.{IsStepped}
 use Rattle.mesh_run.proofs.GoesOn.{goes_further}
 use Rattle.mesh_run.proofs.run.Run.run.Goals as goal

@@ -1,4 +1,3 @@
-use Rattle.std.proofs.Common.{ℕ}
 use Rattle.mesh_run.specs.RunState.{GoesOn, area_left}
 use Rattle.mesh_run.proofs.run.Run.run.Given as goal
 
