@@ -9,25 +9,33 @@
 //! 5. What a run without rules and its mesh are is given exactly; the definitions stand in specs/.
 #![tactic(auto)]
 
+mod all;
 mod application;
+mod applying;
 mod boundary;
 mod domain_run;
 mod gate;
 pub mod laws;
+mod left;
 mod lists;
 mod mesh;
 mod numbering;
 mod opening;
+mod run;
+mod stepped;
 mod whole;
 
+pub use all::run_all;
 pub use application::{Application, Applications};
 pub use boundary::uncut;
 pub use domain_run::{DomainRun, DomainRuns};
 pub use gate::{Gate, NoGate};
 pub use lists::{Elements, FrontRows, OpeningLines, PointNumbers};
 pub use mesh::mesh_of;
+pub use run::Run;
 pub use size_field::{Piece, Pieces};
 pub use std::alloc::AllocError as OutOfMemory;
+pub use stepped::Stepped;
 pub use whole::{open_all, open_geometry};
 
 /// The options of a run.
