@@ -18,6 +18,8 @@ pub mod Covered
 pub mod NamedRuns
 -- That a run is the only one.
 pub mod OneRun
+-- The mesh of a run.
+pub mod Written
 -- How runs end.
 pub mod Ended
 -- Runs by rules. SameState: what applies depends on points and front alone.
