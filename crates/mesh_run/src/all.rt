@@ -7,43 +7,40 @@ ghost use Rattle.mesh_run.specs.Opening.{mesh_points};
 ghost use Rattle.mesh_run.specs.RunState.{AreOptions};
 ghost use Rattle.mesh_run.specs.Runs.{pieces_by, IsDomainRun, IsWholeRun};
 
+use super::ground::Ground;
 use super::opening::number_mesh;
 use super::whole::whole_end;
 use super::{DomainRun, DomainRuns, Gate, Options, Run, WholeRun};
 use geom_check::{Geometry, domain_numbers};
-use grid_geom::Point;
 use rule_maps::RuleSet;
-use size_field::{Pieces, cut};
+use size_field::cut;
 use std::alloc::{AllocError as OutOfMemory, Global};
 use std::marker::Brand;
 use std::sync::ledger::{Blank, Ledger};
 use std::thread::Threads;
 use steps::Steps;
 
-/// The run of a domain from its opening to its end, which counts its own steps. `mesh` are the mesh
-/// points of the pieces.
+/// The run of a domain from its opening to its end, which counts its own steps.
 fn run_domain<L: Ledger>(
     alloc: Global,
-    pieces: &Pieces,
-    mesh: &[Point],
-    g: &Geometry,
-    rules: &RuleSet<'_>,
+    ground: &Ground<'_, '_>,
     domain: u32,
-    options: &Options,
     blank: Blank,
 ) -> Result<DomainRun, OutOfMemory>
     requires name { blank.name ≡ L.name }
     requires parts { blank.parts ≡ L.parts }
     requires some { 0 < L.parts }
-    requires domain { Contains (domain_numbers g.now.segments) domain }
-    requires options { AreOptions options.now }
-    requires pieces { pieces.now ≡ pieces_by g.now options.now }
-    requires mesh { mesh.now ≡ mesh_points pieces.now }
-    ensures run { IfOk result (IsDomainRun g.now rules.now options.now domain) }
+    requires domain { Contains (domain_numbers ground.now.geometry.now.segments) domain }
+    requires options { AreOptions ground.now.options.now }
+    requires pieces { ground.now.pieces.now
+        ≡ pieces_by ground.now.geometry.now ground.now.options.now }
+    requires mesh { ground.now.mesh.now ≡ mesh_points ground.now.pieces.now }
+    ensures run { IfOk result (IsDomainRun ground.now.geometry.now ground.now.rules.now
+        ground.now.options.now domain) }
     ensures names { IfOk result NamesItsPoints }
 {
     let mut steps = Steps::<L>::from_blank(blank);
-    let mut run = Run::open_on(alloc, pieces, mesh, g, rules, domain, options)?;
+    let mut run = Run::open_on(alloc, ground, domain)?;
     let end = run.run(alloc, &mut steps)?;
     run.into_domain_run(alloc, end)
 }
@@ -51,33 +48,22 @@ fn run_domain<L: Ledger>(
 /// The runs of the domains that the segments name, one after another by rising number.
 fn run_domains<G: Gate>(
     alloc: Global,
-    pieces: &Pieces,
-    g: &Geometry,
-    rules: &RuleSet<'_>,
-    options: &Options,
+    ground: &Ground<'_, '_>,
     gate: &G,
 ) -> Result<Vec<DomainRun>, OutOfMemory>
-    requires options { AreOptions options.now }
-    requires pieces { pieces.now ≡ pieces_by g.now options.now }
-    ensures runs { IfOk result (λ v. AllZip (IsDomainRun g.now rules.now options.now)
-        (domain_numbers g.now.segments) v.items) }
+    requires options { AreOptions ground.now.options.now }
+    requires pieces { ground.now.pieces.now
+        ≡ pieces_by ground.now.geometry.now ground.now.options.now }
+    requires mesh { ground.now.mesh.now ≡ mesh_points ground.now.pieces.now }
+    ensures runs { IfOk result (λ v. AllZip (IsDomainRun ground.now.geometry.now ground.now.rules.now
+        ground.now.options.now) (domain_numbers ground.now.geometry.now.segments) v.items) }
     ensures names { IfOk result (λ v. All NamesItsPoints v.items) }
 {
-    let mesh = number_mesh(alloc, pieces.as_slice())?.points(alloc)?;
-    let numbers = domain_numbers(alloc, g.segments())?;
+    let numbers = domain_numbers(alloc, ground.geometry.segments())?;
     let mut runs = Vec::new(alloc);
     for domain in &numbers {
         gate.enter(*domain);
-        runs.push(run_domain::<Brand>(
-            alloc,
-            pieces,
-            &mesh,
-            g,
-            rules,
-            *domain,
-            options,
-            Blank::new(1),
-        )?)?;
+        runs.push(run_domain::<Brand>(alloc, ground, *domain, Blank::new(1))?)?;
     }
     Ok(runs)
 }
@@ -91,20 +77,28 @@ fn run_domains<G: Gate>(
 pub fn run_all<R: Threads + Sync, G: Gate + Sync>(
     _rt: &R,
     alloc: Global,
-    g: &Geometry,
+    geometry: &Geometry,
     rules: &RuleSet<'_>,
     options: &Options,
     gate: &G,
 ) -> Result<WholeRun, OutOfMemory>
     requires { AreOptions options.now }
-    ensures run { IfOk result (IsWholeRun g.now rules.now options.now) }
+    ensures run { IfOk result (IsWholeRun geometry.now rules.now options.now) }
     ensures names { IfOk result (λ w. All NamesItsPoints w.domains) }
 {
-    let pieces = cut(alloc, g, options.greatest, options.grading)?;
-    let runs = run_domains(alloc, &pieces, g, rules, options, gate)?;
+    let pieces = cut(alloc, geometry, options.greatest, options.grading)?;
+    let mesh = number_mesh(alloc, pieces.as_slice())?.points(alloc)?;
+    let ground = Ground {
+        pieces: &pieces,
+        mesh: &mesh,
+        geometry,
+        rules,
+        options,
+    };
+    let runs = run_domains(alloc, &ground, gate)?;
     let end = whole_end(&runs);
     Ok(WholeRun {
-        shift: g.shift(),
+        shift: geometry.shift(),
         options: *options,
         pieces,
         domains: DomainRuns::from_vec(runs),

@@ -6,7 +6,12 @@
 //!    its new points in order of making.
 //! 4. A domain's opening lines are its pieces in their order, each with the domain on its left: as
 //!    edges they are the domain's boundary.
-//! 5. What a run without rules and its mesh are is given exactly; the definitions stand in specs/.
+//! 5. A `Run` is a domain's state after some applications, each of which was the next one: that of the
+//!    least class, then of the least line, then of the least candidate on it. One more takes at least 1
+//!    from the front's doubled area, so a run ends.
+//! 6. It ends done, where no front is left; else stuck, where nothing applies; else stopped, where as
+//!    many applications were made as the domain may make.
+//! 7. What a run, a whole run and its mesh are is given exactly; the definitions stand in specs/.
 #![tactic(auto)]
 
 mod all;
@@ -15,6 +20,7 @@ mod applying;
 mod boundary;
 mod domain_run;
 mod gate;
+mod ground;
 pub mod laws;
 mod left;
 mod lists;

@@ -14,11 +14,12 @@ ghost use Rattle.mesh_run.specs.Steps.{IsNext, NothingApplies, IsSpent};
 
 use super::applying::{copy_of, put};
 use super::left::{points_of, rows_of};
+use super::ground::Ground;
 use super::opening::{number_mesh, opening_of};
 use super::{Application, Applications, DomainRun, End, FrontRows, OpeningLines, Options, Stepped};
 use front_chain::Front;
 use geom_check::Geometry;
-use grid_geom::{Point, Points};
+use grid_geom::Points;
 use rule_maps::RuleSet;
 use rule_match::best;
 use size_field::{Pieces, Sizes, sizes_of};
@@ -73,32 +74,34 @@ impl<'a> Model for Run<'a> {
 impl<'a> Run<'a> {
     ghost use Rattle.mesh_run.specs.RunState.{IsStepped, DoesTakeArea, GoesOn, IsEndOfRun, IsFirstOfClass, IsClassSpent, AreOptions, area_left, domain_run, opened_run, setting_by, run_after};
 
-    /// The run of a domain before its first application. `mesh` are the mesh points of the pieces.
+    /// The run of a domain before its first application.
     pub fn open_on(
         alloc: Global,
-        pieces: &Pieces,
-        mesh: &[Point],
-        g: &Geometry,
-        rules: &'a RuleSet<'a>,
+        ground: &Ground<'_, 'a>,
         domain: u32,
-        options: &Options,
     ) -> Result<Run<'a>, OutOfMemory>
-        requires domain { Contains (domain_numbers g.now.segments) domain }
-        requires options { AreOptions options.now }
-        requires pieces { pieces.now ≡ pieces_by g.now options.now }
-        requires mesh { mesh.now ≡ mesh_points pieces.now }
-        ensures { IfOk result (λ run. run ≡ opened_run g.now rules.now options.now domain) }
+        requires domain { Contains (domain_numbers ground.now.geometry.now.segments) domain }
+        requires options { AreOptions ground.now.options.now }
+        requires pieces { ground.now.pieces.now
+            ≡ pieces_by ground.now.geometry.now ground.now.options.now }
+        requires mesh { ground.now.mesh.now ≡ mesh_points ground.now.pieces.now }
+        ensures { IfOk result (λ run. run ≡ opened_run ground.now.geometry.now ground.now.rules.now
+            ground.now.options.now domain) }
     {
-        let opening = opening_of(alloc, domain, g.segments(), pieces.as_slice(), mesh)?;
+        let geometry = ground.geometry;
+        let options = ground.options;
+        let segments = geometry.segments();
+        let opening = opening_of(alloc, domain, segments, ground.pieces.as_slice(), ground.mesh)?;
         let points = opening.points.as_slice();
         let opened = points.len();
         let front = Front::open(alloc, points, opening.lines.as_slice())?;
-        let sizes = sizes_of(alloc, g, pieces, domain, options.greatest, options.grading)?;
+        let (greatest, grading) = (options.greatest, options.grading);
+        let sizes = sizes_of(alloc, geometry, ground.pieces, domain, greatest, grading)?;
         Ok(Run {
             domain,
             options: *options,
             sizes,
-            rules,
+            rules: ground.rules,
             opened,
             lines: opening.lines,
             front,
@@ -113,18 +116,26 @@ impl<'a> Run<'a> {
     pub fn open(
         alloc: Global,
         pieces: &Pieces,
-        g: &Geometry,
+        geometry: &Geometry,
         rules: &'a RuleSet<'a>,
         domain: u32,
         options: &Options,
     ) -> Result<Run<'a>, OutOfMemory>
-        requires domain { Contains (domain_numbers g.now.segments) domain }
+        requires domain { Contains (domain_numbers geometry.now.segments) domain }
         requires options { AreOptions options.now }
-        requires pieces { pieces.now ≡ pieces_by g.now options.now }
-        ensures { IfOk result (λ run. run ≡ opened_run g.now rules.now options.now domain) }
+        requires pieces { pieces.now ≡ pieces_by geometry.now options.now }
+        ensures { IfOk result (λ run. run
+            ≡ opened_run geometry.now rules.now options.now domain) }
     {
         let mesh = number_mesh(alloc, pieces.as_slice())?.points(alloc)?;
-        Run::open_on(alloc, pieces, &mesh, g, rules, domain, options)
+        let ground = Ground {
+            pieces,
+            mesh: &mesh,
+            geometry,
+            rules,
+            options,
+        };
+        Run::open_on(alloc, &ground, domain)
     }
 
     /// The application of the least candidate of a line at a class.

@@ -6,7 +6,7 @@ use Rattle.mesh_run.proofs.all.run_domains.Given as goal
 
 abbrev pub invariant-loop-domain : goal.invariant-loop-domain
 invariant-loop-domain g l = record {
-  runs : AllZip (IsDomainRun l.g l.rules l.options) (take l.domain-index l.domain-items) l.runs.items;
+  runs : AllZip (IsDomainRun l.ground.geometry.now l.ground.rules.now l.ground.options.now) (take l.domain-index l.domain-items) l.runs.items;
   names : All NamesItsPoints l.runs.items;
 }
 
