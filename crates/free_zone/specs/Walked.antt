@@ -25,12 +25,16 @@ pub record IsCounted (free way : Type 0) (n : ℕ) (old new : Option ℕ) : Type
 pub record IsPassed (zone : List Point) (m : Mapped) (k : ℕ) (old new : Found) : Type 0 where
   pub ends : ℕ × ℕ
   pub on_front : line_at m.front.lines k ≡ Some ends
-  pub point : IsCounted (IsFreePoint zone m ends.0) (¬ (Contains m.numbers ends.0) × IsInside zone m.front ends.0) ends.0 old.point new.point
-  pub line : IsCounted (IsFreeLine zone m ends) (¬ (IsMappedLine m.rule m.numbers ends) × ¬ (IsBeside zone m.front ends)) k old.line new.line
+  pub point : IsCounted (IsFreePoint zone m ends.0)
+      (¬ (Contains m.numbers ends.0) × IsInside zone m.front ends.0) ends.0 old.point new.point
+  pub line : IsCounted (IsFreeLine zone m ends)
+      (¬ (IsMappedLine m.rule m.numbers ends) × ¬ (IsBeside zone m.front ends)) k old.line new.line
 
 -- what is found is in the way, and each other point and line is free or no less
 pub record IsFound (zone : List Point) (m : Mapped) (found : Found) : Type 0 where
   pub point : IfSome found.point (IsPointInWay zone m)
   pub line : IfSome found.line (IsLineInWay zone m)
-  pub points : (n : ℕ) → IsFrontPoint m.front.lines n → IsFreePoint zone m n ⊎ IsAtMost found.point n
-  pub lines : AllByRecursion (λ line. IsFreeLine zone m (line.1, line.2) ⊎ IsAtMost found.line line.0) m.front.lines
+  pub points : (n : ℕ) → IsFrontPoint m.front.lines n → IsFreePoint zone m n
+      ⊎ IsAtMost found.point n
+  pub lines : AllByRecursion (λ line. IsFreeLine zone m (line.1, line.2)
+      ⊎ IsAtMost found.line line.0) m.front.lines

@@ -1,9 +1,11 @@
-// A box that holds the corners of a zone.
+// A box that holds a zone.
 ghost use Rattle.std.specs.Prelude.{◌≡◌, List, [], ◌∷◌};
 ghost use Rattle.std.specs.Int.{int_min, int_max};
 ghost use Rattle.grid_geom.specs.declared.Point.{Point as AnyPoint};
 ghost use Rattle.state_law.specs.Saved.{AreInBox};
+ghost use Rattle.free_zone.specs.Zone.{IsZone};
 
+use crate::zone::Zone;
 use grid_geom::{Bounds, Point};
 
 /// The point with the lesser of each coordinate.
@@ -41,7 +43,7 @@ fn extended(bounds: &Bounds, by: &Point) -> Bounds
 }
 
 /// The least box that holds the corners, where there is one.
-pub fn box_of(corners: &[Point]) -> Bounds
+fn box_of(corners: &[Point]) -> Bounds
     ensures { AreInBox result.lo result.hi corners.now }
 {
     let start = match corners {
@@ -56,4 +58,14 @@ pub fn box_of(corners: &[Point]) -> Bounds
         bounds = extended(&bounds, corner);
     }
     bounds
+}
+
+impl Zone {
+    /// A box that holds the corners.
+    pub fn bounds(&self) -> Bounds
+        ensures holds { AreInBox result.lo result.hi self.now }
+        ensures zone { IsZone self.now }
+    {
+        box_of(self.corners())
+    }
 }

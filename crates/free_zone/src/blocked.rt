@@ -6,12 +6,11 @@ ghost use Rattle.front_chain.specs.Front.{line_at, is_near};
 ghost use Rattle.free_zone.specs.InTheWay.{mapping, nth, mapped_pair, IsMappedLine, IsInside, IsBeside, IsFreePoint, IsFreeLine, IsAnswer};
 ghost use Rattle.free_zone.specs.Walked.{IsCounted, IsPassed, IsFound};
 
-use crate::around::box_of;
+use crate::mapped::is_mapped;
 use crate::zone::Zone;
 use front_chain::Front;
 use grid_geom::{apart, in_open};
 use rule_maps::Compiled;
-use rule_reader::MapLine;
 
 /// What is in the way of a rule.
 #[derive(Clone, Copy, Debug, PartialEq, Eq)]
@@ -27,39 +26,6 @@ pub enum Blocker {
 struct Found {
     point: Option<u64>,
     line: Option<u64>,
-}
-
-/// The number of the front point that is mapped as the rule's point `k`.
-fn number_at(mapped: &[u64], k: u32) -> u64
-    ensures { result ≡ nth mapped.now k }
-{
-    let place = (k as usize).saturating_sub(1);
-    if place < mapped.len() {
-        mapped[place]
-    } else {
-        0
-    }
-}
-
-/// Whether the rule's line is mapped to these ends.
-fn stands_at(line: &MapLine, mapped: &[u64], from: u64, to: u64) -> bool
-    ensures { IsTrue result ↔ (mapped_pair mapped.now line.now ≡ (from, to)) }
-{
-    number_at(mapped, line.i) == from && number_at(mapped, line.j) == to
-}
-
-/// Whether some line of the rule is mapped to these ends.
-fn is_mapped_line(lines: &[MapLine], mapped: &[u64], from: u64, to: u64) -> bool
-    ensures { IsTrue result ↔ Any (λ l. mapped_pair mapped.now l ≡ (from, to)) lines.now }
-{
-    lines.iter().any(|line| stands_at(line, mapped, from, to))
-}
-
-/// Whether the rule maps a line to these ends.
-fn is_mapped(c: &Compiled<'_>, mapped: &[u64], ends: &(u64, u64)) -> bool
-    ensures { IsTrue result ↔ IsMappedLine c.now mapped.now ends.now }
-{
-    is_mapped_line(c.rule().lines.as_slice(), mapped, ends.0, ends.1)
 }
 
 /// The least number in the way, after one more was looked at.
@@ -80,7 +46,8 @@ impl Zone {
     fn is_point_free(&self, front: &Front, mapped: &[u64], n: u64) -> bool
         requires { IsListed (length front.now.points) n }
         ensures free { IsTrue result → Contains mapped.now n ⊎ ¬ (IsInside self.now front.now n) }
-        ensures in_way { IsFalse result → ¬ (Contains mapped.now n) × IsInside self.now front.now n }
+        ensures in_way { IsFalse result → ¬ (Contains mapped.now n) ×
+            IsInside self.now front.now n }
     {
         mapped.contains(&n) || !in_open(front.point(n), self.corners())
     }
@@ -143,7 +110,7 @@ impl Zone {
         ensures { IsFound self.now (mapping front.now c.now mapped.now) result }
     {
         let _lines = front.lines();
-        let near = box_of(self.corners());
+        let near = self.bounds();
         let mut found = Found {
             point: None,
             line: None,

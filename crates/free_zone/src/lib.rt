@@ -13,6 +13,8 @@
 
 mod around;
 mod blocked;
+pub mod laws;
+mod mapped;
 mod zone;
 
 pub use blocked::Blocker;

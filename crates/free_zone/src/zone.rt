@@ -48,7 +48,8 @@ fn corners_of(
     requires range { All (IsInRange f.now) mapped.now }
     requires class_least { 1 ≤ class }
     requires class_greatest { class ≤ 16 }
-    ensures corners { IfSome result (λ v. v.items ≡ zone_of (mapping f.now c.now mapped.now) class) }
+    ensures corners { IfSome result
+        (λ v. v.items ≡ zone_of (mapping f.now c.now mapped.now) class) }
     ensures on { IfSome result (λ v. All IsOnGrid v.items) }
     ensures off { IfNone result
         (¬ (All IsOnGrid (zone_of (mapping f.now c.now mapped.now) class))) }
