@@ -180,13 +180,15 @@ module _ {V : Type 0} where
       → get kept k.slot ≡ Some x → Updates kept new k.slot None → AreKept less new
   kept_removed es less kept new k x a r was u =
       let slot : k.slot ≡ r.entry.key.slot = ap (λ k. k.slot) (sym r.key) in
-      record { same = λ j. out_at es less kept new r.entry (record {
-        was = a;
-        out = r.gone;
-        held = x;
-        there = subst (λ s. get kept s ≡ Some x) slot was;
-        updates = subst (λ s. Updates kept new s None) slot u;
-      }) j (has_key j r.entry) refl }
+      record {
+        same = λ j. out_at es less kept new r.entry (record {
+          was = a;
+          out = r.gone;
+          held = x;
+          there = subst (λ s. get kept s ≡ Some x) slot was;
+          updates = subst (λ s. Updates kept new s None) slot u;
+        }) j (has_key j r.entry) refl;
+      }
 
   -- an entry that is held is there to be taken out
   pub sure_removed : (es less : List (Entry V)) (kept : Slab (Bounds × V)) (k : Key) (x : Bounds × V) (was_here : Bool) → AreKept es kept → get kept k.slot ≡ Some x
