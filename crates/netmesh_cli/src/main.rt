@@ -36,6 +36,7 @@ mod outcome;
 mod rule_file;
 pub mod rule_laws;
 mod rules;
+mod run;
 mod serve;
 mod settings;
 mod texts;
