@@ -15,3 +15,5 @@ pub mod Walking
 pub mod Told
 -- Worked: the fronts of the tests.
 pub mod Worked
+-- OneAnswer: an answer is the only one.
+pub mod OneAnswer

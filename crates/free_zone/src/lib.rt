@@ -13,6 +13,7 @@
 
 mod around;
 mod blocked;
+pub mod laws;
 mod mapped;
 mod zone;
 

@@ -16,5 +16,6 @@ pub mod Joins
 -- The opening, and what is true of every front.
 pub mod Openings
 pub mod Kept
--- A triangle, so that the conditions can be met.
+-- A triangle and a square with a hole, so that the conditions can be met.
 pub mod Worked
+pub mod Ring

@@ -33,7 +33,7 @@ use Rattle.mesh_run.specs.declared.Options.{Options}
 use Rattle.mesh_run.specs.Reached.{IsReached, MayBeApplied, elements_at, front_at}
 use Rattle.mesh_run.specs.Runs.{opening_of, pieces_by, setting_of}
 use Rattle.mesh_run.specs.Steps.{RunSetting, IsNext, AreNext, applied, state_after}
-use Rattle.mesh_run.specs.Sum.{AddsUp, IsCovered, IsOffRun, sum_of_elements}
+use Rattle.mesh_run.specs.Sum.{AddUp, IsCovered, sum_of_elements}
 use Rattle.mesh_run.proofs.Areas.{pieces_area}
 use Rattle.mesh_run.proofs.Begun.{front_opens}
 use Rattle.mesh_run.proofs.Steps.{area_after, may_apply, reached_after, reached_opening}
@@ -57,14 +57,14 @@ each_element q [] kq convex off = tt
 each_element q (corners ∷ elements) kq convex off =
     (one_element q corners kq convex.0 (all_first _ (sides corners) (all_sides elements) off), each_element q elements kq convex.1 (all_second _ (sides corners) (all_sides elements) off))
 
-pub adds_up : (g : PlanarMap) (options : Options) (d : ℕ) (st : State) (q : RatPoint) → IsGeometry g → IsReached (piece_boundary d g.segments (pieces_by g options)) st → IsOffRun g st q → AddsUp g d st q
-adds_up g options d st q h r off =
+pub adds_up : (g : PlanarMap) (options : Options) (d : ℕ) (st : State) → IsGeometry g → IsReached (piece_boundary d g.segments (pieces_by g options)) st → AddUp g d (elements_at st) (front_at st)
+adds_up g options d st h r q off =
     let b = piece_boundary d g.segments (pieces_by g options) in
     record {
       sum = sym (pieces_wind g options.greatest options.grading d q h off.rational) ∙ kept_wind b [] (front_at st) (elements_at st) r.kept q
           ∙ turned (wind q (front_at st)) (wind q (all_sides (elements_at st))) (sum_of_elements q (elements_at st)) (sum_is q (elements_at st));
-      elements = each_element q (elements_at st) off.rational r.kept.convex off.off_elements;
-      front = (region_of b [] (front_at st) (elements_at st) r.kept).single q off.rational off.off_front;
+      elements_once = each_element q (elements_at st) off.rational r.kept.convex off.off_elements;
+      front_once = (region_of b [] (front_at st) (elements_at st) r.kept).single q off.rational off.off_front;
     }
   where
     turned : (f e s : ℤ) → e ≡ s → f +ℤ e ≡ s +ℤ f
@@ -116,6 +116,6 @@ covered g rules options d applications h above can n =
     let b = piece_boundary d g.segments (pieces_by g options) in let s = setting_of g rules options d in let st = opening_of g options d in
     let opened = reached_opening g options.greatest options.grading d h above in
     record {
-      adds_up = λ k within q off. adds_up g options d (state_after st (take k applications)) q h (reached_all b s st applications k opened can n) off;
+      adds_up = λ k within. adds_up g options d (state_after st (take k applications)) h (reached_all b s st applications k opened can n);
       bounded = subst (λ (z : ℤ). length applications ≤ or_zero z) (ap shoelace (front_opens d g.segments (pieces_by g options)) ∙ pieces_area g options.greatest options.grading d h) (few b s st applications opened can n);
     }

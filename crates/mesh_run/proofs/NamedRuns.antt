@@ -35,10 +35,10 @@ grows st [] = omega arith
 grows st (a ∷ more) = omega (arith, count_after st a, length-append st.points a.made, grows (applied st a) more)
 
 -- the corners of elements are listed
-abbrev AreCorners : ℕ → List Application → Type 0
+abbrev pub AreCorners : ℕ → List Application → Type 0
 AreCorners n applications = AllByRecursion (λ a. AllByRecursion (λ ns. AllByRecursion (IsListed n) ns) a.elements) applications
 
-corners_named : (b : List Edge) (s : RunSetting) (st : State) (more : List Application) → IsReached b st → CanPrint s.rules → AreNext s st more → AreCorners (length (state_after st more).points) more
+pub corners_named : (b : List Edge) (s : RunSetting) (st : State) (more : List Application) → IsReached b st → CanPrint s.rules → AreNext s st more → AreCorners (length (state_after st more).points) more
 corners_named b s st [] r can n = tt
 corners_named b s st (a ∷ more) r can n =
     let may = may_next b s st a r can n.0 in let after = applied st a in

@@ -26,7 +26,7 @@ ghost use Rattle.mesh_run.specs.Opening.{domain_points, front_edges, front_from,
 ghost use Rattle.mesh_run.specs.Runs.{opening_of, opening_state, setting_of, IsDomainRun, IsWholeRun};
 ghost use Rattle.mesh_run.specs.Reached.{IsReached, MayBeApplied, front_at};
 ghost use Rattle.mesh_run.specs.Steps.{applied, AreNext, IsEndOf, IsNext, NothingApplies, RunSetting, state_after};
-ghost use Rattle.mesh_run.specs.Sum.{IsCovered};
+ghost use Rattle.mesh_run.specs.Sum.{AreCovered, IsCovered};
 ghost use Rattle.mesh_run.specs.declared.Options.{Options};
 ghost use Rattle.mesh_run.specs.declared.End.{End};
 ghost use Rattle.mesh_run.specs.declared.End.TheVariants.{Done, Stuck, Stopped};
@@ -113,7 +113,12 @@ pub fn law_reached()
 /// rational point off all segments and off their own edges: the boundary's winding number there is the
 /// sum of theirs, each 0 or 1. There are at most as many applications as the domain's doubled area. All
 /// the while the run keeps of its state what it kept.
+///
+/// So it is of each domain of a whole run, and so it is in the mesh that is written, with the front that
+/// is left in the end.
 pub fn law_sums()
+    ensures whole { (g : PlanarMap) (rules : List Rule) (options : Options) (w : WholeRun) →
+        IsGeometry g → CanPrint rules → IsWholeRun g rules options w → AreCovered g options w }
     ensures covered { (g : PlanarMap) (rules : List Rule) (options : Options) (d : ℕ) (applications : List Application) →
         IsGeometry g → 0 < d → CanPrint rules → AreNext (setting_of g rules options d) (opening_of g options d) applications →
         IsCovered g d (opening_of g options d) applications }

@@ -15,3 +15,9 @@ pub mod Orders
 pub mod NextPoint
 pub mod Covered
 pub mod Tried
+-- Over a front: Gathered, the walk over the lines near a base line.
+pub mod Gathered
+-- NearPlaces: the box of all points in range, and local places, as the code computes them.
+pub mod NearPlaces
+-- Surroundings: the starts of front lines in range are the front points in range.
+pub mod Surroundings

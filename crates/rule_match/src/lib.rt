@@ -14,6 +14,7 @@
 //! near points are gathered from a front, and the search over all rules of a file.
 
 mod application;
+mod around;
 mod assignment;
 mod badness;
 mod found;
