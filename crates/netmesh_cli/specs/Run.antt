@@ -3,7 +3,7 @@
 -- MeshInput     what is accepted: the geometry, the rules and the options
 -- IsRunOf       this is its run: the applications in each domain are exactly the next ones
 -- log_of ..     the bytes of the two files that are put, and the line that is written
--- IsExactRun    after each application elements and front add up to each domain; and how the run ends
+-- IsExactRun    elements and front add up to each domain, after each application and in the mesh; and how it ends
 use Rattle.std.specs.Prelude.{◌≡◌, ◌≢◌, ℕ, ◌<◌, ◌↔◌, ℤ, List, [], Option, Some, None, All}
 use Rattle.std.specs.List.{AllZip}
 use Rattle.word_scan.specs.declared.decimals.Dec.{Dec}
@@ -24,7 +24,7 @@ use Rattle.mesh_run.specs.declared.End.{End}
 use Rattle.mesh_run.specs.declared.End.TheVariants.{Done as DoneEnd, Stuck as StuckEnd, Stopped as StoppedEnd}
 use Rattle.mesh_run.specs.Steps.{state_after, NothingApplies}
 use Rattle.mesh_run.specs.Runs.{opening_of, setting_of, IsWholeRun}
-use Rattle.mesh_run.specs.Sum.{IsCovered}
+use Rattle.mesh_run.specs.Sum.{AreCovered}
 use Rattle.mesh_run.specs.Mesh.{mesh_of_run}
 use Rattle.vol_format.specs.Vol.{vol_text}
 use Rattle.run_log.specs.Log.{log_text}
@@ -100,13 +100,6 @@ outcome_of StoppedEnd = Stopped
 
 -- ---- what is true of the run
 
--- the run of domain d: after each application, each rational point off all edges has in the domain a winding
--- number equal to the sum of those of the elements and of the front that is left, each 0 or 1; and the
--- applications are at most the doubled area in number
-abbrev pub IsDomainCovered : MeshInput → ℕ → DomainRun → Type 0
-IsDomainCovered input d r =
-    IsCovered input.geometry d (opening_of input.geometry (options_of input) d) r.applications
-
 -- no domain has a front that is left
 abbrev pub HasNoFront : WholeRun → Type 0
 HasNoFront run = All (λ r. r.front ≡ []) run.domains
@@ -119,9 +112,11 @@ NothingAppliesIn input d r = r.front ≢ []
 
 -- what is true of the run of what is accepted
 pub record IsExactRun (input : MeshInput) (run : WholeRun) : Type 0 where
-  -- after each application elements and front add up to every domain; the applications are bounded
-  pub covered : AllZip (IsDomainCovered input) (domain_numbers input.geometry.segments) run.domains
-  -- each rational point off all segments has in every domain a winding number of 0 or 1, and 1 in one at most
+  -- after each application and in the written mesh, each rational point off all edges has in every domain a
+  -- winding number equal to the sum of those of the elements and of the front that is left, each 0 or 1; the
+  -- applications are at most the doubled area in number
+  pub covered : AreCovered input.geometry (options_of input) run
+  -- off the segments that winding number is 0 or 1 in every domain, and 1 in one at most
   pub wound : (d : ℕ) → 0 < d → WindsAtMostOnce input.geometry.points input.geometry.segments d
   pub separate : (q : RatPoint) → IsRational q
       → IsOff q (edges_of input.geometry.points input.geometry.segments)

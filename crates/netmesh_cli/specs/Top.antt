@@ -164,9 +164,9 @@ pub record HoldsMesh (task : MeshTask) (outcome : Outcome) (written now_written 
       ≡ finite.insert (finite.insert old task.log (log_of run)) task.mesh (mesh_of input run)
   -- its summary line is written
   pub line : ToldBoth written now_written (λ before now. now ≡ before ++ line_of input run)
-  -- after each application, and so in what is written, elements and front add up to every domain, off all edges;
-  -- the applications are at most the doubled area in number; the end is Done exactly with empty fronts, and
-  -- otherwise Stuck, where nothing applies
+  -- after each application and in the written files elements and front add up to every domain, off all edges; the
+  -- applications are at most the doubled area in number; the end is Done exactly with empty fronts, and otherwise
+  -- Stuck, where nothing applies
   pub exact : IsExactRun input run
   -- the outcome is that of its end
   pub ended : outcome ≡ outcome_of run.end

@@ -1,10 +1,10 @@
 //! The run that `mesh` makes of a geometry and rules.
 
-ghost use Rattle.std.specs.Prelude.{◌≡◌, ◌≤◌, IfOk};
+ghost use Rattle.std.specs.Prelude.{◌≡◌, IfOk};
 ghost use Rattle.geom_check.specs.Placed.{IsReadableIfAny};
 ghost use Rattle.geom_check.specs.Geometry.{IsLength};
-ghost use Rattle.size_field.specs.Size.{AreLimits};
 ghost use Rattle.rule_reader.specs.Normal.{CanPrint};
+ghost use Rattle.mesh_run.specs.RunState.{AreOptions};
 ghost use Rattle.netmesh_cli.specs.Run.{input_of, greatest_size, run_options, IsRunOf, IsExactRun};
 ghost use Rattle.netmesh_cli.specs.Jobs.{AreInRange};
 
@@ -43,9 +43,7 @@ fn greatest_size(geometry: &Geometry, maxh: Option<Dec>) -> u64
 fn run_options(geometry: &Geometry, options: &MeshOptions) -> Options
     requires { AreInRange options.now }
     ensures value { result ≡ run_options geometry.now.shift options.now }
-    ensures limits { AreLimits result.greatest result.grading }
-    ensures first_class { 1 ≤ result.last }
-    ensures last_class { result.last ≤ 16 }
+    ensures options { AreOptions result }
 {
     Options {
         greatest: greatest_size(geometry, options.maxh),
