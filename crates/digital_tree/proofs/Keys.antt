@@ -1,8 +1,8 @@
 -- Entries and what is held under their keys: each key has one entry at most, and an entry that is put in or taken out changes what is held under its key alone.
 use native.Mathlib.Omega.{arith}
-use Rattle.std.specs.Prelude.{◌≡◌, ◌≢◌, ◌≤◌, ◌+◌, ℕ, zero, suc, Bool, true, false, not, ◌||◌, nat_eq, List, [], ◌∷◌, ◌++◌, map, filter, length, drop, Option, Some, None, cond, refl}
+use Rattle.std.specs.Prelude.{◌≡◌, ◌≢◌, ◌≤◌, ◌+◌, ℕ, suc, Bool, true, false, not, ◌||◌, List, [], ◌∷◌, ◌++◌, map, filter, length, drop, Option, Some, None, cond, refl}
 use Rattle.std.specs.Option.{option_map, option_to_list, option_flatten}
-use Rattle.std.specs.List.{AllByRecursion, find, list_any, after_first, position_or_len}
+use Rattle.std.specs.List.{AllByRecursion, find, list_any, position_or_len}
 use Rattle.std.proofs.Common.{ap, sym, ◌∙◌, subst}
 use Rattle.std.proofs.lemmas.List.Elements.{filter-append}
 use Rattle.std.proofs.lemmas.List.{map-append}

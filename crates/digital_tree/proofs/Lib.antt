@@ -7,3 +7,5 @@ pub mod Parts
 pub mod Takings
 -- Keys: what is held under the keys of entries.
 pub mod Keys
+-- WalkLaws: the laws of walks.
+pub mod WalkLaws

@@ -1,13 +1,13 @@
 -- Lists of entries: what holds of all of them, walks over two lists, and entries put in and taken out.
-use Rattle.std.specs.Prelude.{◌≡◌, ◌≤◌, ℕ, Bool, true, false, ◌||◌, nat_eq, List, [], ◌∷◌, ◌++◌, length, Option, Some, None, cond, refl}
+use Rattle.std.specs.Prelude.{◌≡◌, ◌≤◌, Bool, true, false, ◌||◌, List, [], ◌∷◌, ◌++◌, length, filter, Option, Some, None, cond, refl}
 use Rattle.std.specs.Option.{option_map, option_or}
-use Rattle.std.specs.List.{AllByRecursion, find, list_any}
+use Rattle.std.specs.List.{AllByRecursion, find}
 use Rattle.std.proofs.Common.{ap, sym, ◌∙◌, subst, append_assoc, append-nil, length-append, arith}
 use Rattle.std.proofs.lemmas.List.Folds.{find-append, list_any-append}
 use Rattle.grid_geom.specs.declared.Bounds.{Bounds}
 use Rattle.digital_tree.specs.declared.Key.{Key}
 use Rattle.digital_tree.specs.declared.Entry.{Entry}
-use Rattle.digital_tree.specs.Entries.{key_of, has_key, is_hit, first_in_walk, next_in, IsInserted, IsRemoved, IsAbsent, IsSpot}
+use Rattle.digital_tree.specs.Entries.{key_of, has_key, is_hit, first_in_walk, next_in, IsInserted, IsRemoved, IsAbsent}
 
 -- what holds of all of two lists, of one that an entry is put in, and of one that it is taken from
 module _ {X : Type 0} (P : X → Type 0) where
@@ -106,6 +106,13 @@ module _ {V : Type 0} where
       → cond t (Some (first_in_walk b (xs ++ ys))) (next_in b k (xs ++ ys)) ≡ going_on (cond t (Some (first_in_walk b xs)) (next_in b k xs)) (next_in b k ys) (first_in_walk b ys)
   next_step b k true xs ys h = ap Some (first_append b xs ys)
   next_step b k false xs ys h = h
+
+  filter_step : (p : Bool) (e : Entry V) (rest : List (Entry V)) → p ≡ false → rest ≡ [] → cond p (e ∷ rest) rest ≡ []
+  filter_step p e rest h k = ap (λ t. cond t (e ∷ rest) rest) h ∙ k
+
+  pub hits_missed : (b : Bounds) (es : List (Entry V)) → AllByRecursion (λ e. is_hit b e ≡ false) es → filter (is_hit b) es ≡ []
+  hits_missed b [] h = refl
+  hits_missed b (e ∷ es) h = filter_step (is_hit b e) e (filter (is_hit b) es) h.0 (hits_missed b es h.1)
 
   pub next_append : (b : Bounds) (k : Key) (xs ys : List (Entry V)) → next_in b k (xs ++ ys) ≡ going_on (next_in b k xs) (next_in b k ys) (first_in_walk b ys)
   next_append b k [] ys = refl

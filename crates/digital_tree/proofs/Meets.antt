@@ -1,5 +1,4 @@
 -- Boxes that meet, as a test and as a fact; and a box that meets none of the boxes that lie in a box that it misses.
-use lib.Signed.{◌≤ℤ◌, le_z, le_z_yes}
 use native.Mathlib.Omega.{arith}
 use Rattle.std.proofs.lemmas.Int.{ints}
 use Rattle.std.specs.Prelude.{◌≡◌, Bool, true, false, ◌&&◌, refl}

@@ -1,8 +1,8 @@
 -- What is known of a part's entries: their boxes lie in its box, so a box that misses it misses them all, and an entry whose box doesn't lie in it isn't there.
 use native.Mathlib.Omega.{arith}
-use Rattle.std.specs.Prelude.{◌≡◌, ◌≤◌, ℕ, Bool, true, false, ◌||◌, nat_eq, List, [], ◌∷◌, ◌++◌, length, Option, Some, None, cond, refl, Box}
+use Rattle.std.specs.Prelude.{◌≡◌, ◌≤◌, ℕ, Bool, true, false, ◌||◌, List, [], ◌∷◌, ◌++◌, length, filter, None, refl, Box}
 use Rattle.std.specs.List.{AllByRecursion, list_any}
-use Rattle.std.proofs.Common.{ap, sym, ◌∙◌, subst}
+use Rattle.std.proofs.Common.{ap, sym, ◌∙◌, subst, append-nil}
 use Rattle.std.specs.declared.alloc.Global.{Global}
 use Rattle.grid_geom.specs.declared.Bounds.{Bounds}
 use Rattle.grid_geom.specs.Boxes.{DoBoundsMeet}
@@ -12,10 +12,10 @@ use Rattle.digital_tree.specs.declared.part.Fork.{Fork}
 use Rattle.digital_tree.specs.declared.part.Below.{Below}
 use Rattle.digital_tree.specs.declared.part.Below.TheVariants.{Nothing, One, Two}
 use Rattle.digital_tree.specs.Boxes.{IsWithin}
-use Rattle.digital_tree.specs.Entries.{has_key, is_hit, first_in_walk, next_in, IsInserted, IsAbsent, IsSpot}
+use Rattle.digital_tree.specs.Entries.{has_key, is_hit, first_in_walk, IsInserted, IsAbsent, IsSpot}
 use Rattle.digital_tree.specs.Part.{entries_in, AreWithin, IsSoundFork, IsSound}
 use Rattle.digital_tree.proofs.Meets.{missed, within_self, within_more}
-use Rattle.digital_tree.proofs.Lists.{all_append, all_first, all_second, all_inserted, some_inserted, first_missed, next_absent}
+use Rattle.digital_tree.proofs.Lists.{all_append, all_first, all_second, all_inserted, some_inserted, first_missed, hits_missed}
 
 untrue : (t : Bool) → (t ≡ true → ⊥) → t ≡ false
 untrue true h = absurd (h refl)
@@ -43,6 +43,9 @@ module _ {V : Type 0} where
 
   pub none_met : (b outer : Bounds) (es : List (Entry V)) → AreWithin outer es → (DoBoundsMeet outer b → ⊥) → first_in_walk b es ≡ None
   none_met b outer es h miss = first_missed b es (all_missed b outer es miss h)
+
+  pub no_hits : (b outer : Bounds) (es old : List (Entry V)) → AreWithin outer es → (DoBoundsMeet outer b → ⊥) → old ≡ old ++ filter (is_hit b) es
+  no_hits b outer es old h miss = sym (ap (λ l. old ++ l) (hits_missed b es (all_missed b outer es miss h)) ∙ append-nil old)
 
   none_outside : (k : Key) (box outer : Bounds) (es : List (Entry V)) → AllByRecursion (λ e. has_key k e ≡ true → e.bounds ≡ box) es → AreWithin outer es → (IsWithin box outer → ⊥) → list_any (has_key k) es ≡ false
   none_outside k box outer [] spot h out = refl

@@ -4,11 +4,12 @@ use super::Key;
 use grid_geom::Bounds;
 
 const COORDINATES: u32 = 4;
+
 const PLACES: u32 = COORDINATES * u64::BITS;
 
 /// The digits to base 2 of a box and its key, in one row: the first digits of the four coordinates
-/// lo.x, lo.y, hi.x, hi.y, then their second ones and so on, and then those of the key. So entries of
-/// one box differ too.
+/// lo.x, lo.y, hi.x, hi.y, then their second ones and so on, and then those of the key. So two
+/// entries of one box differ too.
 #[derive(Clone, Copy)]
 pub struct Digits {
     coordinates: [u64; 4],

@@ -4,20 +4,20 @@
 //!    walk. No two entries have one key.
 //! 2. An insertion puts its entry at a place of the tree's choice. Insertions and removals keep the
 //!    order of all other entries.
-//! 3. Where it chooses, it goes by the digits of the boxes' coordinates, so that boxes near each other
+//! 3. Where it chooses, it goes by the digits of the boxes' coordinates: boxes that are near each other
 //!    stand near each other in the walk (Bonet and Peraire 1991).
 #![tactic(auto)]
 
 mod boxes;
 mod digits;
+pub mod laws;
 mod part;
 mod pool;
 mod tree;
 
+use grid_geom::Bounds;
 pub use std::alloc::AllocError as OutOfMemory;
 pub use tree::Tree;
-
-use grid_geom::Bounds;
 
 /// What an entry is called by as long as it is in its tree.
 #[derive(Clone, Copy, Debug, PartialEq, Eq)]

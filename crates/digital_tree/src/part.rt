@@ -1,6 +1,6 @@
 // A part of a tree: a box, and below it the entries whose boxes lie in it.
-ghost use Rattle.std.specs.Prelude.{◌≡◌, ◌≤◌, ◌∷◌, ◌++◌, [], ◌↔◌, IsTrue, true, false, length};
-ghost use Rattle.digital_tree.specs.Entries.{first_in_walk, next_in, IsInserted, IsRemoved, IsAbsent, IsSpot};
+ghost use Rattle.std.specs.Prelude.{◌≡◌, ◌≤◌, ◌∷◌, ◌++◌, [], ◌↔◌, IsTrue, OnOk, true, false, length, take, filter};
+ghost use Rattle.digital_tree.specs.Entries.{is_hit, first_in_walk, next_in, IsInserted, IsRemoved, IsAbsent, IsSpot};
 ghost use Rattle.digital_tree.specs.Part.{IsSoundFork};
 
 use super::boxes::{is_within, union};
@@ -8,6 +8,7 @@ use super::digits::Digits;
 use super::pool::Pool;
 use super::{Entry, Key};
 use grid_geom::{Bounds, Point, meet};
+use std::alloc::AllocError as OutOfMemory;
 use std::marker::Model;
 use std::mem;
 
@@ -127,6 +128,33 @@ impl<V: Copy> Part<V> {
         }
     }
 
+    /// Appends the entries whose boxes meet `b`.
+    pub fn push_hits(&self, b: &Bounds, hits: &mut Vec<Entry<V>>) -> Result<(), OutOfMemory>
+        ensures begins { take (length hits.old.items) hits.new.items ≡ hits.old.items }
+        ensures all { OnOk result
+            (hits.new.items ≡ hits.old.items ++ filter (is_hit b.now) self.now) }
+    {
+        if !meet(&self.bounds, b) {
+            return Ok(());
+        }
+        match &self.below {
+            Below::Nothing => Ok(()),
+            Below::One(key, value) => {
+                hits.push(Entry {
+                    key: *key,
+                    bounds: self.bounds,
+                    value: *value,
+                })?;
+                Ok(())
+            }
+            Below::Two(fork) => {
+                fork.low.push_hits(b, hits)?;
+                fork.high.push_hits(b, hits)?;
+                Ok(())
+            }
+        }
+    }
+
     /// None where the spot's entry isn't here, else the key of the first entry after it whose box
     /// meets `b`.
     pub fn next_hit(&self, b: &Bounds, spot: &Spot) -> Option<Option<Key>>
@@ -138,13 +166,7 @@ impl<V: Copy> Part<V> {
         }
         match &self.below {
             Below::Nothing => None,
-            Below::One(key, _) => {
-                if *key == spot.key {
-                    Some(None)
-                } else {
-                    None
-                }
-            }
+            Below::One(key, _) => { if *key == spot.key { Some(None) } else { None } }
             Below::Two(fork) => match fork.low.next_hit(b, spot) {
                 None => fork.high.next_hit(b, spot),
                 Some(Some(key)) => Some(Some(key)),
@@ -198,9 +220,25 @@ impl<V: Copy> Part<V> {
         let old = mem::replace(self, Part::new());
         let new = Part::of(entry);
         let both = if digits.is_high(place) {
-            Part::of_two(bounds, Fork { place, low: old, high: new }, fork)
+            Part::of_two(
+                bounds,
+                Fork {
+                    place,
+                    low: old,
+                    high: new,
+                },
+                fork,
+            )
         } else {
-            Part::of_two(bounds, Fork { place, low: new, high: old }, fork)
+            Part::of_two(
+                bounds,
+                Fork {
+                    place,
+                    low: new,
+                    high: old,
+                },
+                fork,
+            )
         };
         *self = both;
     }
@@ -211,7 +249,10 @@ impl<V: Copy> Part<V> {
         ensures { result ≡ sides.low ++ sides.high }
     {
         *fork = sides;
-        Part { bounds, below: Below::Two(fork) }
+        Part {
+            bounds,
+            below: Below::Two(fork),
+        }
     }
 
     /// Takes out the spot's entry, and tells whether it was there. A fork that is no longer needed

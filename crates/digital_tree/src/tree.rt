@@ -1,8 +1,8 @@
 // The tree: its entries, room for more, and the walks.
-ghost use Rattle.std.specs.Prelude.{◌≡◌, ◌≤◌, ◌+◌, [], List, OnOk, OnErr, IfOk, OnSome, IfNone};
+ghost use Rattle.std.specs.Prelude.{◌≡◌, ◌≤◌, ◌+◌, [], ◌++◌, length, take, filter, OnOk, OnErr, IfOk, OnSome, IfNone};
 ghost use Rattle.std.specs.List.{find};
 ghost use Rattle.std.specs.Option.{option_map};
-ghost use Rattle.digital_tree.specs.Entries.{has_key, held, first_in_walk, next_in_walk};
+ghost use Rattle.digital_tree.specs.Entries.{has_key, held, is_hit, first_in_walk, next_in_walk};
 ghost use Rattle.digital_tree.specs.Entries.{AreDifferent, IsInserted, IsRemoved, IsAbsent};
 
 use super::digits::Digits;
@@ -37,8 +37,8 @@ impl<V> Model for Tree<V> {
     ghost Value = { TreeState V };
 
     ghost view = { λ a. record {
-        entries = a.root;
-        spare = min a.pool (a.kept.capacity - slab_len a.kept)
+      entries = a.root;
+      spare = min a.pool (a.kept.capacity - slab_len a.kept);
     } };
 
     ghost invariant = { λ a. AreKept a.root a.kept };
@@ -93,7 +93,11 @@ impl<V: Copy> Tree<V> {
         };
         let digits = Digits::of(key, &b);
         let place = digits.first_difference(&self.root.alike(&digits));
-        let entry = Entry { key, bounds: b, value: v };
+        let entry = Entry {
+            key,
+            bounds: b,
+            value: v,
+        };
         self.root.insert(entry, &digits, place, fork);
         key
     }
@@ -109,7 +113,10 @@ impl<V: Copy> Tree<V> {
         match self.kept.try_remove(k.slot) {
             None => None,
             Some(held) => {
-                let spot = Spot { key: k, bounds: held.0 };
+                let spot = Spot {
+                    key: k,
+                    bounds: held.0,
+                };
                 let _was_here = self.root.remove(&spot, &mut self.pool);
                 Some(held)
             }
@@ -131,10 +138,23 @@ impl<V: Copy> Tree<V> {
         match self.kept.get(after.slot) {
             None => None,
             Some((bounds, _)) => {
-                let spot = Spot { key: after, bounds: *bounds };
+                let spot = Spot {
+                    key: after,
+                    bounds: *bounds,
+                };
                 self.root.next_hit(b, &spot).flatten()
             }
         }
+    }
+
+    /// Appends the entries whose boxes meet `b`, in the order of the walk: a walk all at once, which
+    /// costs less than one hit after another. Without memory only some of them are appended.
+    pub fn push_hits(&self, b: &Bounds, hits: &mut Vec<Entry<V>>) -> Result<(), OutOfMemory>
+        ensures begins { take (length hits.old.items) hits.new.items ≡ hits.old.items }
+        ensures all { OnOk result
+            (hits.new.items ≡ hits.old.items ++ filter (is_hit b.now) self.now.entries) }
+    {
+        self.root.push_hits(b, hits)
     }
 
     /// The box and the value of the entry with this key. Takes no memory.

@@ -4,8 +4,9 @@ ghost use Rattle.folder_io.specs.Causes.{Told};
 
 use crate::faults::{PutFault, TakeFault};
 use crate::folder::Folder;
+use crate::whole::put_whole;
 use std::alloc::Global;
-use std::io::{ErrorKind, Read, Write};
+use std::io::{ErrorKind, Read};
 use std::marker::Model;
 use std::rt::Files;
 use std::{fs, io};
@@ -75,10 +76,11 @@ impl<R: Files + Drop> Folder for FolderDisk<R> {
         }
     }
 
-    /// Writes the whole file under the name.
+    /// Writes the whole file under the name, or leaves what stands there as it was: what is no plain
+    /// file alone is written through.
     fn put(&mut self, alloc: Global, name: &str, bytes: &[u8]) -> Result<(), PutFault> {
         let copy = String::from_str(alloc, name)?;
-        match write_whole(&self.rt, name, bytes) {
+        match put_whole(&self.rt, alloc, name, bytes) {
             Ok(()) => Ok(()),
             Err(e) if e.kind() == ErrorKind::OutOfMemory => Err(PutFault::Memory),
             Err(_) => {
@@ -101,10 +103,4 @@ fn read_within<S: Read + Drop>(source: S, alloc: Global, limit: u64) -> io::Resu
         .take(limit.saturating_add(1))
         .read_to_end(&mut bytes)?;
     Ok(bytes)
-}
-
-/// Makes the file anew and writes all of the bytes; a file that takes nothing of a piece has failed.
-fn write_whole<R: Files>(rt: &R, name: &str, bytes: &[u8]) -> io::Result<()> {
-    let mut file = fs::create(rt, name)?;
-    file.write_all(bytes)
 }

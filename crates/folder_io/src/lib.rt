@@ -26,6 +26,7 @@ mod sure;
 mod table;
 #[cfg(test)]
 mod tests;
+mod whole;
 
 pub use disk::FolderDisk;
 pub use faults::{PutFault, SinkFault, TakeFault};

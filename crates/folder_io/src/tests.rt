@@ -6,6 +6,7 @@ use crate::{
 };
 use std::alloc::{AllocError, Global};
 use std::fs;
+use std::os::unix::fs::symlink;
 use std::test::Fail;
 
 fn text(alloc: Global, text: &str) -> Result<String, AllocError> {
@@ -107,6 +108,35 @@ fn the_working_folder_keeps_a_long_file_whole(rt: HostRuntime) -> Result<(), Fai
     fs::remove_file(&rt, "folder_io_long")?;
     assert_eq!(rt; taken?.as_slice(), long.as_slice());
     assert_eq!(rt; short.err(), Some(TakeFault::TooLong));
+    Ok(())
+}
+
+#[test]
+fn a_put_leaves_a_link_a_link(rt: HostRuntime) -> Result<(), Fail> {
+    let mut folder = FolderDisk::new(rt.clone()?, rt.alloc());
+    symlink(&rt, "folder_io_fresh", "folder_io_link")?;
+    let fresh = folder.put(rt.alloc(), "folder_io_link", b"fresh");
+    let again = folder.put(rt.alloc(), "folder_io_link", b"again");
+    let taken = folder.take(rt.alloc(), "folder_io_fresh", 9);
+    let link = fs::symlink_metadata(&rt, "folder_io_link")?;
+    fs::remove_file(&rt, "folder_io_link")?;
+    fs::remove_file(&rt, "folder_io_fresh")?;
+    assert_eq!(rt; (fresh, again), (Ok(()), Ok(())));
+    assert_eq!(rt; taken?.as_slice(), b"again".as_slice());
+    assert!(rt; link.is_symlink());
+    Ok(())
+}
+
+#[test]
+fn a_put_that_fails_leaves_nothing_beside(rt: HostRuntime) -> Result<(), Fail> {
+    let mut folder = FolderDisk::new(rt.clone()?, rt.alloc());
+    fs::create_dir(&rt, "folder_io_dir")?;
+    let on_folder = folder.put(rt.alloc(), "folder_io_dir", b"text");
+    let full = folder.put(rt.alloc(), "/dev/full", b"text");
+    fs::remove_dir(&rt, "folder_io_dir")?;
+    assert_eq!(rt; on_folder, Err(PutFault::Failed));
+    assert_eq!(rt; full, Err(PutFault::Failed));
+    assert!(rt; !fs::exists(&rt, ".netmesh-0")?);
     Ok(())
 }
 

@@ -88,9 +88,6 @@ past_end [] i h = refl
 past_end (m ∷ made) zero h = absurd (omega (arith, h))
 past_end (m ∷ made) (suc i) h = past_end made i (omega (arith, h))
 
-pub no_line_past : (made : List (Option Side)) (n : ℕ) → length made < n → line_at (lines_from 1 made) n ≡ None
-no_line_past made n h = line_numbered made n (omega arith) ∙ ap (option_map ends) (past_end made (n - 1) (omega arith))
-
 -- ---- a side that is no line
 -- no place has the side
 abbrev pub IsNowhere : List (Option Side) → Side → Type 0

@@ -215,16 +215,7 @@ above_tabled links count first last after n h a past = by (compared n) past a.th
         passed : (j n : ℕ) → j < n - 1 → n ≤ j + 1 → ⊥
         passed j n l k = omega (arith, l, k)
 
--- the walk begins at the first line, and goes on to the next
-pub ahead_first : (links : Table) (count first last after : ℕ) → AreLinked links count first last → IsAhead links after first
-ahead_first links count first last after h = record {
-  there = elim h.first_is.to [ inl e ↦ inl e | inr k ↦ inr k.0 ];
-  between = λ k m l. h.first_is.between k m (positive k (h.within k m).0);
-}
-  where
-    positive : (k : ℕ) → 1 ≤ k → 0 < k
-    positive k l = omega (arith, l)
-
+-- the walk goes on to the next line
 pub ahead_next : (links : Table) (after m n : ℕ) → IsNext links m n → m ≤ after → IsAhead links after n
 ahead_next links after m n h l = record {
   there = elim h.to [ inl e ↦ inl e | inr k ↦ inr k.0 ];

@@ -10,6 +10,7 @@ use Rattle.grid_geom.specs.declared.Edge.{Edge}
 use Rattle.grid_geom.specs.Area.{shoelace}
 use Rattle.rule_reader.specs.declared.rule.Rule.{Rule}
 use Rattle.rule_reader.specs.Normal.{IsRule}
+use Rattle.geom_check.specs.Geometry.{PlanarMap}
 use Rattle.size_field.specs.Size.{SizeField}
 use Rattle.state_law.specs.State.{State, IsListed, number_sides, glue_lines, next_after_all, glued, front_edges}
 use Rattle.state_law.proofs.Region.{kept_of}
@@ -21,11 +22,14 @@ use Rattle.rule_match.specs.Applied.{numbers_from}
 use Rattle.rule_match.specs.Candidate.{nth, made}
 use Rattle.rule_match.specs.Best.{IsBest}
 use Rattle.mesh_run.specs.declared.stepped.Stepped.TheVariants.{Applied}
+use Rattle.mesh_run.specs.declared.End.{End}
+use Rattle.mesh_run.specs.declared.Options.{Options}
 use Rattle.mesh_run.specs.Boundary.{IsNumberTo}
 use Rattle.mesh_run.specs.Opening.{front_from}
-use Rattle.mesh_run.specs.Steps.{RunSetting, IsNext, applied, with_points, state_after, AreNext, IsSpent, IsWithin}
+use Rattle.mesh_run.specs.Steps.{RunSetting, IsNext, applied, with_points, state_after, AreNext, IsSpent, IsWithin, IsEndOf}
+use Rattle.mesh_run.specs.Runs.{opening_of, setting_of, IsDomainRun}
 use Rattle.mesh_run.specs.Reached.{IsReached, MayBeApplied, front_at}
-use Rattle.mesh_run.specs.RunState.{RunBasis, RunState, RunParts, IsRunState, IsStepped, GoesOn, DoName, setting_by, elements_made, with_elements, run_of, run_after, area_left}
+use Rattle.mesh_run.specs.RunState.{RunBasis, RunState, RunParts, IsRunState, IsStepped, GoesOn, DoName, setting_by, elements_made, with_elements, run_of, run_after, area_left, opened_run, domain_run, IsEndOfRun}
 use Rattle.mesh_run.proofs.SameState.{AreSame, same_best}
 use Rattle.mesh_run.proofs.Steps.{may_apply, area_after}
 
@@ -229,3 +233,27 @@ goes_further before between after a h open_still step =
       within = inr (subst (λ (b : RunBasis). IsWithin b.options.limit (length (between.applications ++ a ∷ []))) basis
           (one_more_within between.basis.options.limit (length between.applications) (length (between.applications ++ a ∷ [])) open_still (length_push between.applications a)));
     })
+
+-- ---- from the opening to the end
+-- no more than the limit allows were made, since none was there at the opening
+within_all : (limit : Option ℕ) (applications more : List Application) → applications ≡ more → (more ≡ []) ⊎ IsWithin limit (length applications) → IsWithin limit (length applications)
+within_all limit applications more e (inr w) = w
+within_all None applications more e (inl none) = tt
+within_all (Some limit) applications more e (inl none) = let count = ap length (e ∙ none) in omega arith
+
+-- what is left of a run that went on from its opening to an end is the run of the domain
+pub ended_run : (g : PlanarMap) (rules : List Rule) (options : Options) (d : ℕ) (r : RunState) (end : End) → GoesOn (opened_run g rules options d) r → IsEndOfRun r end → IsDomainRun g rules options d (domain_run r end)
+ended_run g rules options d r end h e =
+    let opening = opening_of g options d in let setting = setting_of g rules options d in
+    let state : r.state ≡ state_after opening r.applications = h.state ∙ ap (state_after opening) (sym h.applications) in
+    record {
+      domain = ap (λ (b : RunBasis). b.domain) h.basis;
+      opened = ap (λ (b : RunBasis). b.opened) h.basis;
+      lines = ap (λ (b : RunBasis). b.lines) h.basis;
+      next_ones = subst (AreNext setting opening) (sym h.applications) h.next_ones;
+      within = within_all options.limit r.applications h.more h.applications h.within;
+      points = ap (λ (st : State). st.points) state;
+      front = ap (λ (st : State). st.front) state;
+      ended = subst (λ (b : RunBasis). IsEndOf (setting_by b) b.options.limit (state_after opening r.applications) (length r.applications) end) h.basis
+          (subst (λ (st : State). IsEndOf (setting_by r.basis) r.basis.options.limit st (length r.applications) end) state e);
+    }

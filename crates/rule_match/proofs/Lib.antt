@@ -21,3 +21,16 @@ pub mod Gathered
 pub mod NearPlaces
 -- Surroundings: the starts of front lines in range are the front points in range.
 pub mod Surroundings
+-- NewParts: the new points and the elements of an attempt.
+pub mod NewParts
+-- Standing: an assignment that meets each test stands for an attempt that meets a candidate's sentences on points, lines and turns.
+pub mod Standing
+-- BaseLines: a front line's frame, and its near points.
+pub mod BaseLines
+-- GluedParts: elements by numbers and by places.
+pub mod GluedParts
+-- Judged: what a whole assignment is judged by.
+pub mod Judged
+-- OverRules: the search over all rules. FoundParts: the application that a find gives.
+pub mod OverRules
+pub mod FoundParts

@@ -40,13 +40,13 @@ or_right true b h = refl
 or_right false b h = h
 
 -- an item that passes is found by its test
-tested : {X : Type 0} (test : X → Bool) (xs : List X) (k : ℕ) (d : X) → k < length xs → test (slice_index_or xs k d) ≡ true → list_any test xs ≡ true
+pub tested : {X : Type 0} (test : X → Bool) (xs : List X) (k : ℕ) (d : X) → k < length xs → test (slice_index_or xs k d) ≡ true → list_any test xs ≡ true
 tested test [] k d h t = absurd (omega (arith, h))
 tested test (x ∷ xs) zero d h t = or_left (test x) (list_any test xs) t
 tested test (x ∷ xs) (suc k) d h t = or_right (test x) (list_any test xs) (tested test xs k d (omega (arith, h)) t)
 
 -- and a test that finds something finds an item
-found : {X : Type 0} (test : X → Bool) (xs : List X) → list_any test xs ≡ true → Any (λ x. test x ≡ true) xs
+pub found : {X : Type 0} (test : X → Bool) (xs : List X) → list_any test xs ≡ true → Any (λ x. test x ≡ true) xs
 found test [] h = clash h
 found test (x ∷ xs) h = by (test x) refl h (found test xs)
   where

@@ -15,7 +15,7 @@ use Rattle.grid_geom.specs.Closed.{same_point}
 use Rattle.grid_geom.specs.Line.{whole}
 use Rattle.grid_geom.specs.Plane.{orient}
 use Rattle.grid_geom.specs.Polygon.{IsStrictlyConvex, IsInPolygon, IsApart}
-use Rattle.rule_maps.specs.Places.{Mapping, new_point, corner}
+use Rattle.rule_maps.specs.Places.{Mapping, new_point}
 use Rattle.rule_maps.specs.Inert.{IsLive}
 use Rattle.rule_maps.specs.Frame.{LocalFrame, local4_x, local4_y, IsInRange}
 use Rattle.rule_reader.specs.declared.rule.Rule.{Rule}
@@ -23,6 +23,7 @@ use Rattle.rule_reader.specs.declared.rule.Place.{Place}
 use Rattle.rule_reader.specs.declared.rule.Triple.{Triple}
 use Rattle.rule_reader.specs.declared.rule.MapPoint.{MapPoint}
 use Rattle.rule_reader.specs.declared.rule.MapLine.{MapLine}
+use Rattle.free_zone.specs.Zone.{zone_of}
 use Rattle.state_law.specs.State.{State, point_at, front_edges, corners_of}
 use Rattle.state_law.specs.Gluing.{MayAllBeGlued}
 
@@ -58,16 +59,14 @@ abbrev pub made_from : Mapping → ℕ → List Place → List Point
 made_from m k [] = []
 made_from m k (p ∷ ps) = new_point m k ∷ made_from m (k + 1) ps
 
-abbrev pub made : State → Attempt → List Point
-made st t = made_from (mapping st t) 1 t.text.new_points
+abbrev pub made_of : Mapping → List Point
+made_of m = made_from m 1 m.rule.new_points
 
--- the places of the zone's corners at the class from number k on
-abbrev pub zone_from : Mapping → ℕ → ℕ → List Place → List Point
-zone_from m class k [] = []
-zone_from m class k (p ∷ ps) = corner m k class ∷ zone_from m class (k + 1) ps
+abbrev pub made : State → Attempt → List Point
+made st t = made_of (mapping st t)
 
 abbrev pub zone : State → Attempt → List Point
-zone st t = zone_from (mapping st t) t.class 1 t.text.area
+zone st t = zone_of (mapping st t) t.class
 
 -- the corners of the elements; rule points after the mapped ones are the new points
 abbrev pub elements : State → Attempt → List (List Point)

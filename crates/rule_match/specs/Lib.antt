@@ -14,3 +14,7 @@ pub mod Walk
 pub mod Fitting
 pub mod Trying
 pub mod Around
+-- Base: a front line tried at a class, and the attempts for which assignments of near points stand.
+pub mod Base
+-- Passed: what a search over the rules owes.
+pub mod Passed

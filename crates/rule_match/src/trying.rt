@@ -70,7 +70,7 @@ fn position(number: u32) -> usize
 }
 
 /// The near point that a number stands for; the origin, with the number 0, where there is none.
-fn point_near(near: &[NearPoint], n: usize) -> NearPoint
+pub(crate) fn point_near(near: &[NearPoint], n: usize) -> NearPoint
     requires { All (λ point. IsOnGrid point.at) near.now }
     ensures point { result ≡ near_at near.now n }
     ensures on_grid { IsOnGrid result.at }

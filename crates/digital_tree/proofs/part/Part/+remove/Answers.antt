@@ -1,4 +1,4 @@
-use Rattle.std.proofs.Common.{rules, ◌≡◌, ℕ, ap, sym, ◌∙◌, refl}
+use Rattle.std.proofs.Common.{rules, ℕ, sym, ◌∙◌}
 use Rattle.digital_tree.proofs.Parts.{within, two_sides, sound_sides, absent_outside}
 use Rattle.digital_tree.proofs.Takings.{IsTaken, taken_low, taken_high, sound_taken, high_left, low_left, one_left}
 use Rattle.digital_tree.proofs.part.Part.+remove.Given.{Over}

@@ -1,4 +1,4 @@
-use Rattle.std.proofs.Common.{rules, refl}
+use Rattle.std.proofs.Common.{refl}
 use Rattle.digital_tree.proofs.Lists.{inserted_last, inserted_head}
 use Rattle.digital_tree.proofs.Parts.{within, new_low, new_high}
 use Rattle.digital_tree.proofs.part.Part.split.Goals as goal

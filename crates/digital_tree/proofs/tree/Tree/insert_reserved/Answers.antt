@@ -1,4 +1,3 @@
-use Rattle.std.proofs.Common.{sym}
 use Rattle.digital_tree.proofs.Keys.{kept_absent, kept_inserted}
 use Rattle.digital_tree.proofs.tree.Tree.insert_reserved.Goals as goal
 

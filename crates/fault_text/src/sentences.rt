@@ -1,0 +1,74 @@
+//! The sentence of any refusal.
+
+use crate::{geometry, in2d, rules, words, writing};
+use std::alloc::{AllocError, Global};
+
+/// A file that was taken: its name, and its bytes where they are at hand.
+#[derive(Clone, Copy, Debug)]
+pub struct File<'a> {
+    pub name: &'a str,
+    pub text: &'a [u8],
+}
+
+/// A refusal as plain values: the numbers are those of its line, from the first on.
+#[derive(Clone, Copy, Debug)]
+pub enum Refused<'a> {
+    /// The words of the call are at fault, or ask for what is not built.
+    Words { words: &'a [String], fault: u32 },
+    /// Words that are not UTF-8.
+    NoText,
+    /// `refused in2d ..`.
+    In2d { file: File<'a>, numbers: &'a [i128] },
+    /// `refused geometry ..`.
+    Geometry { file: File<'a>, numbers: &'a [i128] },
+    /// `refused rules ..`.
+    Rules { file: File<'a>, numbers: &'a [i128] },
+    /// `refused folder ..`.
+    Folder { name: &'a str, fault: u32 },
+    /// `refused notyet ..`.
+    NotYet { part: u32 },
+    /// The answer was not taken.
+    Out,
+    /// There was no memory left.
+    Memory,
+}
+
+/// The sentence of a refusal: one line, with its line feed.
+///
+/// # Errors
+///
+/// Where memory was refused.
+pub fn sentence(alloc: Global, refused: &Refused<'_>) -> Result<String, AllocError> {
+    let mut text = String::new(alloc);
+    match refused {
+        Refused::Words { words, fault } => words::write(&mut text, words, *fault)?,
+        Refused::NoText => text.push_str("netmesh: refused: a word of the call is not UTF-8")?,
+        Refused::In2d { file, numbers } => in2d::write(&mut text, file, numbers)?,
+        Refused::Geometry { file, numbers } => geometry::write(&mut text, file, numbers)?,
+        Refused::Rules { file, numbers } => rules::write(&mut text, file, numbers)?,
+        Refused::Folder { name, fault } => write_folder(&mut text, name, *fault)?,
+        Refused::NotYet { part } => write_not_yet(&mut text, *part)?,
+        Refused::Out => text.push_str("netmesh: refused: standard output did not take the answer")?,
+        Refused::Memory => text.push_str("netmesh: refused: there is no memory left")?,
+    }
+    text.push_str("\n")?;
+    Ok(text)
+}
+
+/// Writes which file the folder refused, and why.
+fn write_folder(text: &mut String, name: &str, fault: u32) -> Result<(), AllocError> {
+    writing::push_shown(text, name.as_bytes())?;
+    text.push_str(match fault {
+        2 => ": refused: the file is longer than 1048576 bytes",
+        3 => ": refused: there is no such file",
+        _ => ": refused: the file can't be read or written",
+    })
+}
+
+/// Writes what is not built.
+fn write_not_yet(text: &mut String, part: u32) -> Result<(), AllocError> {
+    text.push_str(match part {
+        3 => "netmesh: refused: a rule file that holds a rule is not applied yet",
+        _ => "netmesh: refused: this verb, or this option, is not built yet",
+    })
+}
