@@ -4,14 +4,13 @@ use Rattle.std.proofs.Common.{◌≡◌, ◌⊎◌, inl, inr, ℕ, List, sym, su
 use Rattle.in2d_reader.specs.declared.geometry.RawGeometry.{RawGeometry}
 use Rattle.in2d_reader.specs.declared.refusal.In2dRefusal.{In2dRefusal}
 use Rattle.rule_reader.specs.declared.fault.RuleRefusal.{RuleRefusal}
-use Rattle.rule_maps.specs.Inert.{IsLive}
 use Rattle.geom_check.specs.declared.refusal.GeomRefusal.{GeomRefusal}
 use Rattle.geom_check.specs.Refused.{IsRefusal}
 use Rattle.netmesh_cli.specs.declared.words_fault.WordsFault.{WordsFault}
 use Rattle.netmesh_cli.specs.declared.outcome.Refusal.{Refusal}
 use Rattle.netmesh_cli.specs.declared.outcome.Refusal.TheVariants.{Words, In2d, Geometry, Rules, Folder, Out, Memory, NotYet}
-use Rattle.netmesh_cli.specs.Accepted.{IsTextFault, IsGeometryFault, HasGeometry, AreInert, HasRules, HasInertRules, HasLiveRule, IsRulesFault}
-use Rattle.netmesh_cli.specs.Kinds.{Kind, AGeometry, ARuleFile, AnInertFile, Accepts, Rejects, CanReject, GeometryRejects, RulesRejects, InertRejects}
+use Rattle.netmesh_cli.specs.Accepted.{IsTextFault, IsGeometryFault, HasGeometry, HasRules, IsRulesFault}
+use Rattle.netmesh_cli.specs.Kinds.{Kind, AGeometry, ARuleFile, Accepts, Rejects, CanReject, GeometryRejects, RulesRejects}
 use Rattle.netmesh_cli.proofs.Excluded.{excluded, fault_once, text_once, text_fault_once, rules_once, rules_fault_once}
 
 -- ---- a geometry
@@ -78,45 +77,15 @@ one_of_rules bytes r s first second =
     let g = rules_faulty bytes s second in
     f.1 ∙ ap Rules (rules_fault_once bytes f.0 g.0 f.2 g.2) ∙ sym g.1
 
--- ---- a rule file without a live rule
-
-abbrev InertSplit : List ℕ → Refusal → Type 0
-InertSplit bytes r = ((fault : RuleRefusal) × (r ≡ Rules fault) × IsRulesFault bytes fault) ⊎ ((r ≡ NotYet 3) × HasLiveRule bytes)
-
-inert_split : (bytes : List ℕ) (r : Refusal) → InertRejects bytes r → InertSplit bytes r
-inert_split bytes (Words fault) rejects = absurd rejects
-inert_split bytes (In2d fault) rejects = absurd rejects
-inert_split bytes (Geometry fault) rejects = absurd rejects
-inert_split bytes (Rules fault) rejects = inl (fault, refl, rejects)
-inert_split bytes (Folder name number) rejects = absurd rejects
-inert_split bytes Out rejects = absurd rejects
-inert_split bytes Memory rejects = absurd rejects
-inert_split bytes (NotYet part) rejects = inr (ap NotYet rejects.0, rejects.1)
-
-inert_unrejected : (bytes : List ℕ) (r : Refusal) → HasInertRules bytes → ¬ InertSplit bytes r
-inert_unrejected bytes r has (inl rejects) = rejects.2.none has.rules has.are
-inert_unrejected bytes r has (inr rejects) =
-    let inert = subst AreInert (rules_once bytes has.rules rejects.1.rules has.are rejects.1.are) has.inert in
-    let live = rejects.1.live in
-    inert live.0 live.1 live.2 (subst IsLive (sym live.3) live.4)
-
-one_of_inert : (bytes : List ℕ) (r s : Refusal) → InertSplit bytes r → InertSplit bytes s → r ≡ s
-one_of_inert bytes r s (inl first) (inl second) = first.1 ∙ ap Rules (rules_fault_once bytes first.0 second.0 first.2 second.2) ∙ sym second.1
-one_of_inert bytes r s (inl first) (inr second) = absurd (first.2.none second.1.rules second.1.are)
-one_of_inert bytes r s (inr first) (inl second) = absurd (second.2.none first.1.rules first.1.are)
-one_of_inert bytes r s (inr first) (inr second) = first.0 ∙ sym second.0
-
 -- ---- any kind
 
 pub accepted_unrejected : (kind : Kind) (bytes : List ℕ) (r : Refusal) → Accepts kind bytes → ¬ Rejects kind bytes r
 accepted_unrejected AGeometry bytes r accepted rejects = geometry_unrejected bytes r accepted rejects
 accepted_unrejected ARuleFile bytes r accepted rejects = rules_unrejected bytes r accepted rejects
-accepted_unrejected AnInertFile bytes r accepted rejects = inert_unrejected bytes r accepted (inert_split bytes r rejects)
 
 pub one_rejection : (kind : Kind) (bytes : List ℕ) (r s : Refusal) → Rejects kind bytes r → Rejects kind bytes s → r ≡ s
 one_rejection AGeometry bytes r s first second = one_of_geometry bytes r s (geometry_split bytes r first) (geometry_split bytes s second)
 one_rejection ARuleFile bytes r s first second = one_of_rules bytes r s first second
-one_rejection AnInertFile bytes r s first second = one_of_inert bytes r s (inert_split bytes r first) (inert_split bytes s second)
 
 -- a refusal of the bytes of a file is one that its kind may have
 geometry_can : (bytes : List ℕ) (r : Refusal) → GeometryRejects bytes r → CanReject AGeometry r
@@ -139,39 +108,24 @@ rules_can bytes Out rejects = rejects
 rules_can bytes Memory rejects = rejects
 rules_can bytes (NotYet part) rejects = rejects
 
-inert_can : (bytes : List ℕ) (r : Refusal) → InertRejects bytes r → CanReject AnInertFile r
-inert_can bytes (Words fault) rejects = rejects
-inert_can bytes (In2d fault) rejects = rejects
-inert_can bytes (Geometry fault) rejects = rejects
-inert_can bytes (Rules fault) rejects = tt
-inert_can bytes (Folder name number) rejects = rejects
-inert_can bytes Out rejects = rejects
-inert_can bytes Memory rejects = rejects
-inert_can bytes (NotYet part) rejects = rejects.0
-
 pub can_reject : (kind : Kind) (bytes : List ℕ) (r : Refusal) → Rejects kind bytes r → CanReject kind r
 can_reject AGeometry bytes r rejects = geometry_can bytes r rejects
 can_reject ARuleFile bytes r rejects = rules_can bytes r rejects
-can_reject AnInertFile bytes r rejects = inert_can bytes r rejects
 
 -- no file is refused as words are, or as an answer is, or by the folder, for its bytes
 pub no_words_there : (kind : Kind) (fault : WordsFault) → ¬ CanReject kind (Words fault)
 no_words_there AGeometry fault can = can
 no_words_there ARuleFile fault can = can
-no_words_there AnInertFile fault can = can
 
 pub no_out_there : (kind : Kind) → ¬ CanReject kind Out
 no_out_there AGeometry can = can
 no_out_there ARuleFile can = can
-no_out_there AnInertFile can = can
 
 pub no_folder_there : (kind : Kind) (name : List ℕ) (number : ℕ) → ¬ CanReject kind (Folder name number)
 no_folder_there AGeometry name number can = can
 no_folder_there ARuleFile name number can = can
-no_folder_there AnInertFile name number can = can
 
 -- the first part that isn't built is one of words
 pub no_first_there : (kind : Kind) → ¬ CanReject kind (NotYet 1)
 no_first_there AGeometry can = can
 no_first_there ARuleFile can = can
-no_first_there AnInertFile can = absurd cc

@@ -33,7 +33,7 @@ makes_accepted (MeshJob task) files made makes = let rules = makes.rules in (
     holds = makes.geometry.holds;
     accepted = record { raw = makes.raw; geometry = makes.input.geometry; written = makes.geometry.written };
   },
-  (record { bytes = rules.bytes; holds = rules.holds; accepted = record { rules = makes.input.rules; are = rules.are; inert = makes.inert } }, tt),
+  (record { bytes = rules.bytes; holds = rules.holds; accepted = record { rules = makes.input.rules; are = rules.are } }, tt),
 )
 makes_accepted (GeomJob geometry) files made makes = (record { bytes = makes.held.bytes; holds = makes.held.holds; accepted = record { raw = makes.raw; geometry = makes.geometry; written = makes.held.written } }, tt)
 makes_accepted (RulesJob rules) files made makes = (record { bytes = makes.held.bytes; holds = makes.held.holds; accepted = record { rules = makes.rules; are = makes.held.are } }, tt)

@@ -12,8 +12,6 @@ use Rattle.netmesh_cli.specs.declared.outcome.Refusal.{Refusal}
 use Rattle.netmesh_cli.specs.declared.outcome.Refusal.TheVariants.{Words, In2d, Geometry, Rules, Folder, Out, Memory, NotYet}
 use Rattle.netmesh_cli.specs.Causes.{IsOf, IsMemory, FolderFault, FetchRefused}
 use Rattle.netmesh_cli.specs.Accepted.{AreRules, IsRulesFault}
-use Rattle.netmesh_cli.specs.Kinds.{RulesRejects, InertRejects}
-use Rattle.netmesh_cli.specs.BytesRefused.{MayRefuse}
 
 -- a refusal with the fault's number, or want of memory, is a refusal of the file by the folder
 pub refused_by : (limit : ℕ) (name : List ℕ) (before now : FolderState) (fault : ℕ) (r : Refusal) → IsOf name fault r ⊎ IsMemory r → FolderFault limit name before now fault → FetchRefused limit name before now r
@@ -44,14 +42,3 @@ only_memory fault_of.Memory rules read = refl
 
 pub fault_of_rules : (bytes : List ℕ) (fault : RuleRefusal) → fault ≢ fault_of.Memory → RefusesRuleWords (rule_words_of bytes) fault → ((rules : List Rule) → AreRules bytes rules → IsReadAs (Err fault) rules) → IsRulesFault bytes fault
 fault_of_rules bytes fault named refused only = record { named = named; refused = refused; none = λ rules are. named (only_memory fault rules (only rules are)) }
-
--- bytes that are no rule file are none without a live rule
-pub rejected_inert : (bytes : List ℕ) (r : Refusal) → MayRefuse (RulesRejects bytes) r → MayRefuse (InertRejects bytes) r
-rejected_inert bytes (Words fault) rejects = rejects
-rejected_inert bytes (In2d fault) rejects = rejects
-rejected_inert bytes (Geometry fault) rejects = rejects
-rejected_inert bytes (Rules fault) rejects = rejects
-rejected_inert bytes (Folder name number) rejects = rejects
-rejected_inert bytes Out rejects = rejects
-rejected_inert bytes Memory rejects = tt
-rejected_inert bytes (NotYet part) rejects = absurd rejects

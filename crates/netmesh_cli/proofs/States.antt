@@ -1,6 +1,5 @@
 -- A rule has one state, so rules have one listing; and how lines of states grow, rule by rule.
 use Rattle.std.proofs.Common.{◌≡◌, ℕ, ◌+◌, ◌<◌, List, [], ◌∷◌, ◌++◌, length, take, get_or, Option, Some, None, refl, sym, ap, subst, ◌∙◌, arith, append_assoc, append-nil}
-use Rattle.std.specs.Prelude.{is_some, true}
 use Rattle.std.specs.List.{AllZip}
 use Rattle.std.proofs.lemmas.List.{take_more, length-take}
 use Rattle.std.proofs.lemmas.Slice.Zip.{all_zipped_more}
@@ -20,11 +19,6 @@ not_live r BaseKept has live = live.base_leaves has.1
 not_live r NoElement has live = live.some_element has.2
 not_live r IdlePoint has live = live.none_idle has.3
 not_live r BadZone has live = live.good_zone has.4
-
--- nor is one whose state is a reason
-pub unlive : (r : Rule) (state : Option Inert) → is_some state ≡ true → HasState r state → ¬ IsLive r
-unlive r None some has = absurd cc
-unlive r (Some why) some has = not_live r why has
 
 -- one reason is the first: of two, the later comes with the earlier one's contrary
 one_reason : (r : Rule) (why other : Inert) → HasState r (Some why) → HasState r (Some other) → why ≡ other

@@ -178,12 +178,13 @@ mesh_served task outcome w0 w1 old new s = let m = s.makes in record {
   raw = m.raw;
   geometry = m.geometry;
   rules = m.rules;
-  inert = m.inert;
   options = m.options;
+  run = m.run;
+  is_run = m.is_run;
   files = s.put ∙ ap (λ (ps : List Put). put_all ps old) m.puts;
   line = subst (λ (b : List ℕ). ToldBoth w0 w1 (λ before now. now ≡ before ++ b)) m.answer s.written;
   ended = s.ends ∙ m.outcome;
-  covered = m.covered;
+  exact = m.exact;
 }
 
 pub mesh_held : (task : MeshTask) (outcome : Outcome) (s0 s1 : FolderState) (o0 o1 : SinkState) → Answers (MeshJob task) outcome s0 s1 o0 o1 → IfServed outcome (λ served. ToldBoth s0.held s1.held (HoldsMesh task served o0.written o1.written))

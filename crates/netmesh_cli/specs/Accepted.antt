@@ -6,10 +6,8 @@
 -- IsGeometryFault   why the geometry that they are the text of is not accepted
 -- HasGeometry       they are the text of an accepted geometry
 -- AreRules          the bytes are a rule file with these rules
--- AreInert          none of the rules is live
 -- IsRulesFault      why they are no rule file
-use Rattle.std.specs.Prelude.{◌≢◌, ℕ, List, All}
-use Rattle.std.specs.List.{Any}
+use Rattle.std.specs.Prelude.{◌≢◌, ℕ, List}
 use Rattle.word_scan.specs.Scan.{words_of}
 use Rattle.in2d_reader.specs.declared.geometry.RawGeometry.{RawGeometry}
 use Rattle.in2d_reader.specs.declared.refusal.In2dRefusal.{In2dRefusal}
@@ -22,7 +20,6 @@ use Rattle.rule_reader.specs.declared.rule.Rule.{Rule}
 use Rattle.rule_reader.specs.Words.{words_of as rule_words_of}
 use Rattle.rule_reader.specs.Grammar.{Admits}
 use Rattle.rule_reader.specs.Refusals.{Refuses as RefusesRuleWords}
-use Rattle.rule_maps.specs.Inert.{IsLive}
 use Rattle.geom_check.specs.declared.refusal.GeomRefusal.{GeomRefusal}
 use Rattle.geom_check.specs.declared.refusal.GeomRefusal.TheVariants.{Memory as NoMemoryToCheck}
 use Rattle.geom_check.specs.Refused.{IsRefusal}
@@ -65,26 +62,10 @@ pub record HasGeometry (bytes : List ℕ) : Type 0 where
 abbrev pub AreRules : List ℕ → List Rule → Type 0
 AreRules bytes rules = Admits (rule_words_of bytes) rules
 
--- none of these rules is live, so none ever applies
-abbrev pub AreInert : List Rule → Type 0
-AreInert rules = All (λ r. ¬ IsLive r) rules
-
 -- the bytes are a rule file
 pub record HasRules (bytes : List ℕ) : Type 0 where
   pub rules : List Rule
   pub are : AreRules bytes rules
-
--- the bytes are a rule file without a live rule
-pub record HasInertRules (bytes : List ℕ) : Type 0 where
-  pub rules : List Rule
-  pub are : AreRules bytes rules
-  pub inert : AreInert rules
-
--- the bytes are a rule file with a live rule
-pub record HasLiveRule (bytes : List ℕ) : Type 0 where
-  pub rules : List Rule
-  pub are : AreRules bytes rules
-  pub live : Any IsLive rules
 
 -- the bytes are no rule file, and this is the fault
 pub record IsRulesFault (bytes : List ℕ) (fault : RuleRefusal) : Type 0 where

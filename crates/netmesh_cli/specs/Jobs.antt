@@ -7,25 +7,26 @@
 -- EndsSo        the outcomes that it may have, where it isn't refused
 -- Made          what is made: the files to be put, the answer, and the outcome
 -- Makes         this is made of the files that are held
-use Rattle.std.specs.Prelude.{◌≡◌, ℕ, List, [], ◌∷◌, map}
+use Rattle.std.specs.Prelude.{◌≡◌, ℕ, ◌≤◌, List, [], ◌∷◌, map, IfSome}
 use Rattle.folder_io.specs.Names.{Files}
 use Rattle.in2d_reader.specs.declared.geometry.RawGeometry.{RawGeometry}
 use Rattle.rule_reader.specs.declared.rule.Rule.{Rule}
 use Rattle.geom_check.specs.Placed.{IsReadableIfAny}
 use Rattle.geom_check.specs.Geometry.{PlanarMap}
+use Rattle.mesh_run.specs.declared.WholeRun.{WholeRun}
 use Rattle.netmesh_cli.specs.declared.outcome.Outcome.{Outcome}
 use Rattle.netmesh_cli.specs.declared.outcome.Outcome.TheVariants.{Done, Stuck, Stopped, Shown}
 use Rattle.netmesh_cli.specs.declared.made.Put.{Put as PutValue}
 use Rattle.netmesh_cli.specs.declared.made.Made.{Made as MadeValue}
 use Rattle.netmesh_cli.specs.declared.command.MeshCall.{MeshCall}
+use Rattle.netmesh_cli.specs.declared.command.MeshOptions.{MeshOptions}
 use Rattle.netmesh_cli.specs.declared.asked.Asked.{Asked}
 use Rattle.netmesh_cli.specs.declared.asked.Asked.TheVariants.{Mesh, Geom, Rules}
 use Rattle.netmesh_cli.specs.Commands.{Task, MeshTask, MeshOf, GeomOf, RulesOf}
-use Rattle.netmesh_cli.specs.Words.{sizing}
-use Rattle.netmesh_cli.specs.Accepted.{IsGeometryText, AreRules, AreInert}
+use Rattle.netmesh_cli.specs.Accepted.{IsGeometryText, AreRules}
 use Rattle.netmesh_cli.specs.Causes.{HoldsWithin}
-use Rattle.netmesh_cli.specs.Taking.{Taken, geometry_at, rule_file_at, inert_file_at}
-use Rattle.netmesh_cli.specs.Run.{MeshInput, run_of, log_of, mesh_of, line_of, outcome_of, IsCovered}
+use Rattle.netmesh_cli.specs.Taking.{Taken, geometry_at, rule_file_at}
+use Rattle.netmesh_cli.specs.Run.{MeshInput, IsRunOf, log_of, mesh_of, line_of, outcome_of, IsExactRun}
 use Rattle.netmesh_cli.specs.Shown.{shown_text}
 use Rattle.netmesh_cli.specs.Listed.{IsListing}
 
@@ -58,22 +59,22 @@ job_of (Mesh call) = MeshJob (task_of_mesh call)
 job_of (Geom geometry) = GeomJob geometry.now
 job_of (Rules rules) = RulesJob rules.now
 
--- of the options of `mesh` the greatest size and the grading are built so far
-abbrev pub IsBuilt : Job → Type 0
-IsBuilt (MeshJob task) = task.options ≡ sizing task.options.maxh task.options.grading
-IsBuilt (GeomJob geometry) = Unit {0}
-IsBuilt (RulesJob rules) = Unit {0}
+-- the options of `mesh` are in the ranges that words may give them
+pub record AreInRange (options : MeshOptions) : Type 0 where
+  pub maxh : IsReadableIfAny options.maxh
+  pub grading : IfSome options.grading (λ n. n ≤ 10000)
+  pub class_least : IfSome options.class (λ n. 1 ≤ n)
+  pub class_greatest : IfSome options.class (λ n. n ≤ 16)
 
--- a greatest size that is given is in the ranges of a decimal that a word writes
-abbrev pub HasReadableSize : Job → Type 0
-HasReadableSize (MeshJob task) = IsReadableIfAny task.options.maxh
-HasReadableSize (GeomJob geometry) = Unit {0}
-HasReadableSize (RulesJob rules) = Unit {0}
+abbrev pub IsInRange : Job → Type 0
+IsInRange (MeshJob task) = AreInRange task.options
+IsInRange (GeomJob geometry) = Unit {0}
+IsInRange (RulesJob rules) = Unit {0}
 
 -- ---- what is taken and put
 
 abbrev pub takes_of : Job → List Taken
-takes_of (MeshJob task) = geometry_at task.geometry ∷ inert_file_at task.rules ∷ []
+takes_of (MeshJob task) = geometry_at task.geometry ∷ rule_file_at task.rules ∷ []
 takes_of (GeomJob geometry) = geometry_at geometry ∷ []
 takes_of (RulesJob rules) = rule_file_at rules ∷ []
 
@@ -144,15 +145,15 @@ pub record IsMeshed (task : MeshTask) (files : Files) (made : Made) : Type 0 whe
   pub raw : RawGeometry
   pub geometry : HoldsGeometry files task.geometry raw input.geometry
   pub rules : HoldsRules files task.rules input.rules
-  pub inert : AreInert input.rules
   pub options : input.options ≡ task.options
+  pub run : WholeRun
+  pub is_run : IsRunOf input run
+  pub exact : IsExactRun input run
   pub puts : made.puts
-      ≡ record { name = task.log; bytes = log_of input }
-      ∷ record { name = task.mesh; bytes = mesh_of input } ∷ []
-  pub answer : made.answer ≡ line_of input
-  pub outcome : made.outcome ≡ outcome_of (run_of input).end
-  -- off the segments the fronts of the run wind as the boundaries do, each round a place once or not at all
-  pub covered : IsCovered input
+      ≡ record { name = task.log; bytes = log_of run }
+      ∷ record { name = task.mesh; bytes = mesh_of input run } ∷ []
+  pub answer : made.answer ≡ line_of input run
+  pub outcome : made.outcome ≡ outcome_of run.end
 
 -- `geom`: the geometry that is held is accepted, and its text is written
 pub record IsDrawn (name : List ℕ) (files : Files) (made : Made) : Type 0 where

@@ -5,10 +5,10 @@
 -- Accepts      the bytes are accepted
 -- Rejects      they aren't, and this is the refusal
 -- CanReject    there is such a refusal of a file of this kind
-use Rattle.std.specs.Prelude.{◌≡◌, ℕ, List}
+use Rattle.std.specs.Prelude.{ℕ, List}
 use Rattle.netmesh_cli.specs.declared.outcome.Refusal.{Refusal}
-use Rattle.netmesh_cli.specs.declared.outcome.Refusal.TheVariants.{In2d, Geometry, Rules, NotYet}
-use Rattle.netmesh_cli.specs.Accepted.{HasGeometry, IsTextFault, IsGeometryFault, HasRules, HasInertRules, HasLiveRule, IsRulesFault}
+use Rattle.netmesh_cli.specs.declared.outcome.Refusal.TheVariants.{In2d, Geometry, Rules}
+use Rattle.netmesh_cli.specs.Accepted.{HasGeometry, IsTextFault, IsGeometryFault, HasRules, IsRulesFault}
 
 -- what a file is taken for
 pub data Kind : Type 0 where
@@ -16,20 +16,16 @@ pub data Kind : Type 0 where
   AGeometry : Kind
   -- a rule file
   ARuleFile : Kind
-  -- a rule file without a live rule; so far `mesh` takes no other
-  AnInertFile : Kind
 
 -- how many bytes it may have
 abbrev pub limit_of : Kind → ℕ
 limit_of AGeometry = 1048576
 limit_of ARuleFile = 1048576
-limit_of AnInertFile = 1048576
 
 -- the bytes are accepted as a file of this kind
 abbrev pub Accepts : Kind → List ℕ → Type 0
 Accepts AGeometry bytes = HasGeometry bytes
 Accepts ARuleFile bytes = HasRules bytes
-Accepts AnInertFile bytes = HasInertRules bytes
 
 -- the bytes are the text of no geometry, or of one that isn't accepted
 abbrev pub GeometryRejects : List ℕ → Refusal → Type 0
@@ -42,17 +38,10 @@ abbrev pub RulesRejects : List ℕ → Refusal → Type 0
 RulesRejects bytes (Rules fault) = IsRulesFault bytes fault
 RulesRejects bytes _ = ⊥
 
--- the bytes are no rule file, or one with a live rule
-abbrev pub InertRejects : List ℕ → Refusal → Type 0
-InertRejects bytes (Rules fault) = IsRulesFault bytes fault
-InertRejects bytes (NotYet part) = (part ≡ 3) × HasLiveRule bytes
-InertRejects bytes _ = ⊥
-
 -- the bytes are refused so as a file of this kind
 abbrev pub Rejects : Kind → List ℕ → Refusal → Type 0
 Rejects AGeometry = GeometryRejects
 Rejects ARuleFile = RulesRejects
-Rejects AnInertFile = InertRejects
 
 -- a refusal of a geometry
 abbrev pub IsOfGeometry : Refusal → Type 0
@@ -65,13 +54,7 @@ abbrev pub IsOfRules : Refusal → Type 0
 IsOfRules (Rules fault) = Unit {0}
 IsOfRules _ = ⊥
 
-abbrev pub IsOfInertFile : Refusal → Type 0
-IsOfInertFile (Rules fault) = Unit {0}
-IsOfInertFile (NotYet part) = part ≡ 3
-IsOfInertFile _ = ⊥
-
 -- a file of this kind may be refused so
 abbrev pub CanReject : Kind → Refusal → Type 0
 CanReject AGeometry = IsOfGeometry
 CanReject ARuleFile = IsOfRules
-CanReject AnInertFile = IsOfInertFile

@@ -16,22 +16,19 @@ use Rattle.folder_io.specs.States.{FolderState}
 use Rattle.netmesh_cli.specs.declared.outcome.Refusal.{Refusal}
 use Rattle.netmesh_cli.specs.declared.outcome.Refusal.TheVariants.{Folder, Memory}
 use Rattle.netmesh_cli.specs.Causes.{HoldsWithin, FolderFault}
-use Rattle.netmesh_cli.specs.Kinds.{Kind, AGeometry, ARuleFile, AnInertFile, limit_of, Accepts, Rejects, CanReject}
+use Rattle.netmesh_cli.specs.Kinds.{Kind, AGeometry, ARuleFile, limit_of, Accepts, Rejects, CanReject}
 
 -- a file that is taken: its name, and what it is taken for
 pub record Taken : Type 0 where
   pub name : List ℕ
   pub kind : Kind
 
--- a file that is taken for a geometry, for a rule file, or for one without a live rule
+-- a file that is taken for a geometry, or for a rule file
 abbrev pub geometry_at : List ℕ → Taken
 geometry_at name = record { name = name; kind = AGeometry }
 
 abbrev pub rule_file_at : List ℕ → Taken
 rule_file_at name = record { name = name; kind = ARuleFile }
-
-abbrev pub inert_file_at : List ℕ → Taken
-inert_file_at name = record { name = name; kind = AnInertFile }
 
 abbrev pub names_taken : List Taken → List (List ℕ)
 names_taken takes = map (λ file. file.name) takes

@@ -11,6 +11,7 @@ use Rattle.folder_io.specs.Causes.{ToldBoth, GrowsByPrefix}
 use Rattle.folder_io.specs.Names.{Files}
 use Rattle.folder_io.specs.States.{FolderState, SinkState}
 use Rattle.in2d_reader.specs.declared.geometry.RawGeometry.{RawGeometry}
+use Rattle.mesh_run.specs.declared.WholeRun.{WholeRun}
 use Rattle.netmesh_cli.specs.declared.outcome.Outcome.{Outcome}
 use Rattle.netmesh_cli.specs.declared.outcome.Outcome.TheVariants.{Refused}
 use Rattle.netmesh_cli.specs.declared.outcome.Refusal.{Refusal}
@@ -18,10 +19,9 @@ use Rattle.netmesh_cli.specs.declared.outcome.Refusal.TheVariants.{Words, Folder
 use Rattle.netmesh_cli.specs.declared.words_fault.WordsFault.{WordsFault}
 use Rattle.netmesh_cli.specs.Commands.{MeshTask, IsFault}
 use Rattle.netmesh_cli.specs.Words.{AskForUnbuilt}
-use Rattle.netmesh_cli.specs.Accepted.{AreInert}
 use Rattle.netmesh_cli.specs.Causes.{IsMemory, IsUntaken}
 use Rattle.netmesh_cli.specs.Taking.{AreAccepted, FirstRefused}
-use Rattle.netmesh_cli.specs.Run.{MeshInput, run_of, log_of, mesh_of, line_of, outcome_of, IsCovered}
+use Rattle.netmesh_cli.specs.Run.{MeshInput, IsRunOf, log_of, mesh_of, line_of, outcome_of, IsExactRun}
 use Rattle.netmesh_cli.specs.Jobs.{Job, takes_of, puts_of, EndsSo, HoldsGeometry, HoldsRules}
 use Rattle.netmesh_cli.specs.Served.{IsServed, IsAnswer, RefusalCause, RefusalStands, Keeps}
 use Rattle.netmesh_cli.specs.Lines.{refusal_line}
@@ -155,15 +155,18 @@ pub record HoldsMesh (task : MeshTask) (outcome : Outcome) (written now_written 
   pub raw : RawGeometry
   pub geometry : HoldsGeometry old task.geometry raw input.geometry
   pub rules : HoldsRules old task.rules input.rules
-  pub inert : AreInert input.rules
   pub options : input.options ≡ task.options
-  -- LOG holds the log of their run and MESH its mesh, and every other name holds what it held
+  -- this is their run: the applications are exactly the next ones
+  pub run : WholeRun
+  pub is_run : IsRunOf input run
+  -- LOG holds its log and MESH its mesh, and every other name holds what it held
   pub files : new
-      ≡ finite.insert (finite.insert old task.log (log_of input)) task.mesh (mesh_of input)
+      ≡ finite.insert (finite.insert old task.log (log_of run)) task.mesh (mesh_of input run)
   -- its summary line is written
-  pub line : ToldBoth written now_written (λ before now. now ≡ before ++ line_of input)
+  pub line : ToldBoth written now_written (λ before now. now ≡ before ++ line_of input run)
+  -- after each application and in the written files elements and front add up to every domain, off all edges; the
+  -- applications are at most the doubled area in number; the end is Done exactly with empty fronts, and otherwise
+  -- Stuck, where nothing applies
+  pub exact : IsExactRun input run
   -- the outcome is that of its end
-  pub ended : outcome ≡ outcome_of (run_of input).end
-  -- at each rational point off all segments the front that is left of a domain winds as the domain's boundary
-  -- does, once or not at all, and the front of one domain at most winds once
-  pub covered : IsCovered input
+  pub ended : outcome ≡ outcome_of run.end

@@ -1,7 +1,7 @@
 //! Which files and which answer come of the files that the words name, and if none, why?
 //!
-//! So far each accepted geometry is shown by `geom`, and meshed by `mesh`, by a rule file without a live rule:
-//! its segments are cut by the sizes that it gives. The rules of a file are shown by `rules`.
+//! Each accepted geometry is shown by `geom`, and meshed by `mesh` by the rules of a file, which `rules`
+//! shows. The other verbs are not built yet.
 //!
 //! 1. The words name the files. Each file is taken and read before the next is taken.
 //! 2. What is put and written is made of values, between the last take and the first put: so it is a
@@ -36,6 +36,7 @@ mod outcome;
 mod rule_file;
 pub mod rule_laws;
 mod rules;
+mod run;
 mod serve;
 mod settings;
 mod texts;

@@ -1,8 +1,0 @@
-use Rattle.std.proofs.lemmas.Result.{err_from_is_err_and}
-use Rattle.netmesh_cli.proofs.Refusals.{rejected_inert}
-use Rattle.netmesh_cli.proofs.rule_file.read_inert_file.Goals as goal
-
-pub returns-in_err-rules-clause-refused : goal.returns-in_err-rules-clause-refused
-returns-in_err-rules-clause-refused c =
-    let p = err_from_is_err_and c.from_residual.result c.from_residual.ensures.1 in
-    rw (p.1, p.2) (rejected_inert _ _ c.in_err-rules.ensures.refused)
