@@ -29,7 +29,8 @@ elements_at st = map (corners_of st.points) st.elements
 pub record IsReached (boundary : List Edge) (st : State) : Type 0 where
   pub numbered : IsNumbered st
   pub on_grid : All IsOnGrid st.points
-  pub corners_listed : AllByRecursion (λ ns. AllByRecursion (IsListed (length st.points)) ns) st.elements
+  pub corners_listed : AllByRecursion
+      (λ ns. AllByRecursion (IsListed (length st.points)) ns) st.elements
   pub kept : IsKept boundary [] (front_at st) (elements_at st)
 
 -- what an application has in the state at which it is made: its new points are different grid points and none of them is a listed place; its elements
@@ -38,5 +39,6 @@ pub record MayBeApplied (st : State) (a : Application) : Type 0 where
   pub different : IsDistinct same_point (st.points ++ a.made)
   pub on_grid : All IsOnGrid a.made
   pub triangles : AllByRecursion (λ ns. length ns ≡ 3) a.elements
-  pub listed : AllByRecursion (λ ns. AllByRecursion (IsListed (length (st.points ++ a.made))) ns) a.elements
+  pub listed : AllByRecursion (λ ns. AllByRecursion
+      (IsListed (length (st.points ++ a.made))) ns) a.elements
   pub may : MayFollow (with_points st a.made) a.elements

@@ -55,7 +55,8 @@ pub record IsDomainRun (g : PlanarMap) (rules : List Rule) (options : Options) (
   pub within : IsWithin options.limit (length r.applications)
   pub points : r.points ≡ (state_after (opening_of g options d) r.applications).points
   pub front : r.front ≡ (state_after (opening_of g options d) r.applications).front
-  pub ended : IsEndOf (setting_of g rules options d) options.limit (state_after (opening_of g options d) r.applications) (length r.applications) r.end
+  pub ended : IsEndOf (setting_of g rules options d) options.limit
+      (state_after (opening_of g options d) r.applications) (length r.applications) r.end
 
 -- the runs of the domains that the segments name, by rising number; Stopped if one is, else Stuck if one is, else Done
 pub record IsWholeRun (g : PlanarMap) (rules : List Rule) (options : Options) (w : WholeRun) : Type 0 where

@@ -34,7 +34,8 @@ pub record IsNext (s : RunSetting) (st : State) (a : Application) : Type 0 where
   pub first_class : 1 ≤ a.class
   pub last_class : a.class ≤ s.last
   pub best : IsBest s.sizes st s.rules a.line a.class a
-  pub least : (class line : ℕ) → 1 ≤ class → IsBefore class line a → HasNone s.sizes st s.rules line class
+  pub least : (class line : ℕ) → 1 ≤ class → IsBefore class line a
+      → HasNone s.sizes st s.rules line class
 
 -- no line has a candidate at any class that is tried
 pub record NothingApplies (s : RunSetting) (st : State) : Type 0 where

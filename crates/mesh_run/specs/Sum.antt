@@ -55,12 +55,14 @@ pub record AddsUp (g : PlanarMap) (d : ℕ) (elements : List (List Point)) (fron
 
 -- the elements and the front add up to the domain, at each rational point off all edges
 abbrev pub AddUp : PlanarMap → ℕ → List (List Point) → List Edge → Type 0
-AddUp g d elements front = (q : RatPoint) → IsOffEdges g elements front q → AddsUp g d elements front q
+AddUp g d elements front = (q : RatPoint) → IsOffEdges g elements front q
+    → AddsUp g d elements front q
 
 -- so they do after each of the applications; and of these there are at most as many as the domain's doubled area
 pub record IsCovered (g : PlanarMap) (d : ℕ) (opening : State) (applications : List Application) : Type 0 where
   pub adds_up : (k : ℕ) → k ≤ length applications
-      → AddUp g d (elements_at (state_after opening (take k applications))) (front_at (state_after opening (take k applications)))
+      → AddUp g d (elements_at (state_after opening (take k applications)))
+      (front_at (state_after opening (take k applications)))
   pub bounded : length applications ≤ or_zero (shoelace (boundary g.points d g.segments))
 
 -- the elements of the domain in a mesh, each the list of its corners' places
@@ -74,4 +76,5 @@ pub record IsFilled (g : PlanarMap) (options : Options) (m : Mesh) (d : ℕ) (r 
 
 -- so it is of each domain that the segments name, by rising number
 abbrev pub AreCovered : PlanarMap → Options → WholeRun → Type 0
-AreCovered g options w = AllZip (IsFilled g options (mesh_of_run w g.segments)) (domain_numbers g.segments) w.domains
+AreCovered g options w = AllZip (IsFilled g options (mesh_of_run w g.segments))
+    (domain_numbers g.segments) w.domains

@@ -55,7 +55,8 @@ fn run_domains<G: Gate>(
     requires pieces { ground.now.pieces.now
         ≡ pieces_by ground.now.geometry.now ground.now.options.now }
     requires mesh { ground.now.mesh.now ≡ mesh_points ground.now.pieces.now }
-    ensures runs { IfOk result (λ v. AllZip (IsDomainRun ground.now.geometry.now ground.now.rules.now
+    ensures runs { IfOk result (λ v. AllZip
+        (IsDomainRun ground.now.geometry.now ground.now.rules.now
         ground.now.options.now) (domain_numbers ground.now.geometry.now.segments) v.items) }
     ensures names { IfOk result (λ v. All NamesItsPoints v.items) }
 {

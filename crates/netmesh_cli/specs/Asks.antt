@@ -16,7 +16,10 @@ place_rule k = record (new_rule (place_word k)) { required = true; action = Some
 
 abbrev pub option_rule : Setting → Rule
 option_rule setting =
-    record (new_rule (setting_word setting)) { long = Some (setting_word setting); action = Some Set }
+    record (new_rule (setting_word setting)) {
+      long = Some (setting_word setting);
+      action = Some Set;
+    }
 
 abbrev pub no_places : App
 no_places = on_top (λ s. record s { no_binary_name = true; disable_help_flag = true })

@@ -72,7 +72,8 @@ setting_or word setting next = if bytes_eq word (setting_word setting) then Some
 -- the option that is called so
 abbrev pub setting_of : List ℕ → Option Setting
 setting_of word =
-    setting_or word Maxh (setting_or word Grading (setting_or word Class (setting_or word Steps None)))
+    setting_or word Maxh (setting_or word Grading
+    (setting_or word Class (setting_or word Steps None)))
 
 -- the options with this one set, where nothing is its value so far
 abbrev pub set_first : Setting → List ℕ → Given → Option (List ℕ) → Option Given
@@ -82,7 +83,8 @@ set_first setting word given (Some before) = None
 -- the options with the one called so set to the word, where it is one and isn't set yet
 abbrev pub set_called : List ℕ → List ℕ → Given → Option Given
 set_called name word given =
-    option_and_then (λ setting. set_first setting word given (word_given setting given)) (setting_of name)
+    option_and_then (λ setting. set_first setting word given (word_given setting given))
+    (setting_of name)
 
 abbrev pub with_place : List ℕ → Option (List (List ℕ) × Given) → Option (List (List ℕ) × Given)
 with_place word found = option_map (λ (places, all). (word ∷ places, all)) found

@@ -35,5 +35,6 @@ application st t = record {
   rule = t.rule;
   points = t.points;
   made = made st t;
-  elements = map (map (nth (t.points ++ numbers_from (length st.points) (made st t)))) t.text.elements;
+  elements = map (map (nth (t.points
+      ++ numbers_from (length st.points) (made st t)))) t.text.elements;
 }

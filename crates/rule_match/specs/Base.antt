@@ -44,7 +44,8 @@ pub record IsBaseLine (b : BaseLine) : Type 0 where
 
 -- the frame of the line between two points, at the size at its middle
 abbrev pub IsFramed : SizeField → List Point → ℕ → ℕ → LocalFrame → Type 0
-IsFramed sizes points from to f = IsFrameOf (point_at points from) (point_at points to) (size_at sizes f.middle) f
+IsFramed sizes points from to f =
+    IsFrameOf (point_at points from) (point_at points to) (size_at sizes f.middle) f
 
 -- the base line is that with the number, with its frame, at the class
 pub record IsBaseOf (sizes : SizeField) (f : FrontState) (line class : ℕ) (b : BaseLine) : Type 0 where
@@ -73,20 +74,37 @@ numbers_at near b = map (λ k. (near_at near k).number) b
 
 -- the attempt on the base line by a rule that maps these points
 abbrev pub attempt_at : BaseLine → ℕ → Rule → List ℕ → Attempt
-attempt_at b number rule points = record { class = b.class; line = b.line; frame = b.frame; rule = number; text = rule; points = points }
+attempt_at b number rule points =
+    record {
+      class = b.class;
+      line = b.line;
+      frame = b.frame;
+      rule = number;
+      text = rule;
+      points = points;
+    }
 
 -- the attempt for which an assignment of near points stands
 abbrev pub attempt_of : Tried → List ℕ → Attempt
 attempt_of t b = attempt_at t.base t.number t.rule (numbers_at t.base.near b)
 
 abbrev pub setting_at : Tried → Setting
-setting_at t = record { class = t.base.class; from = t.base.line.1; to = t.base.line.2; near = t.base.near; lines = t.base.lines; rule = t.rule }
+setting_at t = record {
+  class = t.base.class;
+  from = t.base.line.1;
+  to = t.base.line.2;
+  near = t.base.near;
+  lines = t.base.lines;
+  rule = t.rule;
+}
 
 -- the zone over these mapped points is on the grid, strictly convex, and free of all points and lines but the mapped ones
 pub record HasFreeZone (t : Tried) (places : List Point) (numbers : List ℕ) : Type 0 where
   pub zone : IsZone (zone_of (mapping t.base.frame t.rule places) t.base.class)
-  pub no_point : HasNoPoint (zone_of (mapping t.base.frame t.rule places) t.base.class) (way.mapping t.base.front t.rule numbers)
-  pub no_line : HasNoLine (zone_of (mapping t.base.frame t.rule places) t.base.class) (way.mapping t.base.front t.rule numbers)
+  pub no_point : HasNoPoint (zone_of (mapping t.base.frame t.rule places) t.base.class)
+      (way.mapping t.base.front t.rule numbers)
+  pub no_line : HasNoLine (zone_of (mapping t.base.frame t.rule places) t.base.class)
+      (way.mapping t.base.front t.rule numbers)
 
 -- these are the new points of the attempt for which the assignment stands: on the grid, at no listed place, and different
 pub record HasNewPoints (t : Tried) (b : List ℕ) (places : List Point) : Type 0 where
@@ -98,4 +116,5 @@ pub record HasNewPoints (t : Tried) (b : List ℕ) (places : List Point) : Type 
 
 -- the rule's elements by the front's numbers, new points coming after those that are listed
 abbrev pub elements_by : Tried → List ℕ → List Point → List (List ℕ)
-elements_by t numbers made = map (map (nth (numbers ++ numbers_from (length t.base.front.points) made))) t.rule.elements
+elements_by t numbers made = map
+    (map (nth (numbers ++ numbers_from (length t.base.front.points) made))) t.rule.elements

@@ -52,7 +52,8 @@ impl<'a> Model for FrontTrial<'a> {
 
     ghost invariant = { λ t.
         IsTrying (record { base = t.base.now; number = t.number; rule = t.rule.now })
-        × (t.trying ≡ setting_at (record { base = t.base.now; number = t.number; rule = t.rule.now })) };
+        × (t.trying ≡ setting_at
+        (record { base = t.base.now; number = t.number; rule = t.rule.now })) };
 }
 
 /// The points of the first list, and then those of the second.
@@ -130,7 +131,8 @@ impl<'a> FrontTrial<'a> {
     fn mapped(&self, alloc: Global, chosen: &[usize]) -> FewPoints
         requires complete { length chosen.now ≡ length self.now.rule.points }
         requires fits { fits_so_far (ties (setting_at self.now)) chosen.now ≡ true }
-        ensures value { result ≡ mapped_at (state_of self.now.base.front) (attempt_of self.now chosen.now) }
+        ensures value { result ≡ mapped_at (state_of self.now.base.front)
+            (attempt_of self.now chosen.now) }
         ensures range { All (IsInRange self.now.base.frame) result }
         ensures count { length result ≡ length self.now.rule.points }
         ensures few { length result ≤ 16 }

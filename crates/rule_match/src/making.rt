@@ -33,7 +33,8 @@ pub(crate) fn made_points(
     ensures made { IfSome result (λ v. v ≡ made_of (mapping frame.now rule.now mapped.now)) }
     ensures on { IfSome result (λ v. All IsOnGrid v) }
     ensures few { IfSome result (λ v. length v ≤ 8) }
-    ensures off { IfNone result (¬ (All IsOnGrid (made_of (mapping frame.now rule.now mapped.now)))) }
+    ensures off { IfNone result
+        (¬ (All IsOnGrid (made_of (mapping frame.now rule.now mapped.now)))) }
 {
     let mut made = FewPoints::new(alloc);
     let count = rule.rule().new_points.as_slice().len();
@@ -102,7 +103,8 @@ fn worse_of(a: Badness, b: Badness) -> Badness
 pub(crate) fn worst_badness(alloc: Global, places: &[Point], elements: &[Element]) -> Badness
     requires on { All IsOnGrid places.now }
     requires three { All (λ ns. length ns ≡ 3) elements.now }
-    ensures { result ≡ worst (record { squares = 0; area = 1 }) (map (corners_of places.now) elements.now) }
+    ensures { result ≡ worst (record { squares = 0; area = 1 })
+        (map (corners_of places.now) elements.now) }
 {
     let mut found = Badness {
         squares: 0,

@@ -49,11 +49,13 @@ opening_points d = take d.opened d.points
 
 -- how many lines of each kind follow: opening points and lines, applications, front lines
 abbrev pub row_counts : DomainRun → List ℕ
-row_counts d = length (opening_points d) ∷ length d.lines ∷ length d.applications ∷ length d.front ∷ []
+row_counts d = length (opening_points d) ∷ length d.lines ∷ length d.applications ∷ length d.front
+    ∷ []
 
 -- a domain, how many lines of each kind follow, and how its run ended
 unfoldable pub domain_row : DomainRun → List ℕ
-domain_row d = codes "domain" ++ spaced (d.domain ∷ row_counts d) ++ 32 ∷ [] ++ end_word d.end ++ 10 ∷ []
+domain_row d = codes "domain" ++ spaced (d.domain ∷ row_counts d) ++ 32 ∷ [] ++ end_word d.end ++ 10
+    ∷ []
 
 -- the two coordinates of a point
 abbrev pub place_words : Point → List ℕ
