@@ -38,3 +38,5 @@ pub mod FoundParts
 pub mod WithinReach
 -- A candidate by places is one by numbers; a later candidate is an earlier one.
 pub mod NearBack
+-- FarAway: elements in a box leave a front alike in each box apart from it.
+pub mod FarAway

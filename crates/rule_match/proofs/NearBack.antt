@@ -28,7 +28,8 @@ use Rattle.state_law.specs.Refusal as refusal
 use Rattle.state_law.proofs.Lists.{all_map}
 use Rattle.state_law.proofs.Numbers.{same_number}
 use Rattle.state_law.proofs.NearLaw.{near_candidate}
-use Rattle.rule_match.specs.Candidate.{Attempt, IsCandidate, nth, mapped, locals, made, made_from, zone, zone_from, elements, mapped_pair, IsFrontPoint, IsFrontPair, IsMappedLine, local4, AreTolerated, IsLineTolerated}
+use Rattle.free_zone.specs.Zone.{zone_from}
+use Rattle.rule_match.specs.Candidate.{Attempt, IsCandidate, nth, mapped, locals, made, made_from, zone, elements, mapped_pair, IsFrontPoint, IsFrontPair, IsMappedLine, local4, AreTolerated, IsLineTolerated}
 use Rattle.rule_match.specs.Least.{IsOf, HasNone}
 use Rattle.rule_match.specs.Near.{IsAlikeNear, IsCovered, IsCoveredBy, IsStayingLine, reach_lo, reach_hi}
 use Rattle.rule_match.specs.Refused.{places_of, IsAllowed}

@@ -18,7 +18,8 @@ use Rattle.state_law.specs.State.{State, point_at, pair_edge, corners_of}
 use Rattle.state_law.specs.Saved.{AreInBox, IsCorner}
 use Rattle.state_law.specs.Reach.{IsWithinReach}
 use Rattle.state_law.proofs.Lists.{all_append, all_map}
-use Rattle.rule_match.specs.Candidate.{Attempt, IsCandidate, nth, mapped, mapping, made, made_from, zone, zone_from, mapped_pair}
+use Rattle.free_zone.specs.Zone.{zone_from}
+use Rattle.rule_match.specs.Candidate.{Attempt, IsCandidate, nth, mapped, mapping, made, made_from, zone, mapped_pair}
 use Rattle.rule_match.specs.Near.{widening, reach_lo, reach_hi}
 use Rattle.rule_match.specs.Refused.{places_of}
 use Rattle.rule_match.proofs.Places.{number_corner}

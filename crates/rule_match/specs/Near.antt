@@ -1,11 +1,13 @@
 -- When a later state of a domain is, near a line, as an earlier one was.
 --
 -- reach_lo, reach_hi   the corners of the box that holds what rules use on a line
+-- IsBox, AreBoxesApart  two corners of a box, the lesser first; one box lies beyond the other
 -- IsAlikeNear          a later state is alike in a box
 -- IsCoveredBy          a rule is one that a reader gives, and n covers it where it is live
 -- IsStayingLine        a front line that the later state has too
 use lib.IntN.{ℤ, pos, ◌+ℤ◌, ◌-ℤ◌, ◌*ℤ◌}
-use Rattle.std.specs.Prelude.{ℕ, ◌≡◌, ◌≤◌, List, ◌++◌}
+use lib.Signed.{◌<ℤ◌, ◌≤ℤ◌}
+use Rattle.std.specs.Prelude.{ℕ, ◌≡◌, ◌⊎◌, ◌≤◌, List, ◌++◌}
 use Rattle.grid_geom.specs.declared.Point.{Point}
 use Rattle.std.specs.List.{Contains}
 use Rattle.rule_reader.specs.declared.rule.Rule.{Rule}
@@ -28,6 +30,16 @@ reach_lo n f = record { x = f.p1.x -ℤ widening n f; y = f.p1.y -ℤ widening n
 
 abbrev pub reach_hi : ℕ → LocalFrame → Point
 reach_hi n f = record { x = f.p1.x +ℤ widening n f; y = f.p1.y +ℤ widening n f }
+
+-- the first corner is not beyond the second
+pub record IsBox (lo hi : Point) : Type 0 where
+  pub columns : lo.x ≤ℤ hi.x
+  pub rows : lo.y ≤ℤ hi.y
+
+-- the box from elo to ehi lies to the left of the box from lo to hi, to its right, below or above it
+abbrev pub AreBoxesApart : Point → Point → Point → Point → Type 0
+AreBoxesApart lo hi elo ehi = (ehi.x <ℤ lo.x) ⊎ ((hi.x <ℤ elo.x)
+    ⊎ ((ehi.y <ℤ lo.y) ⊎ (hi.y <ℤ elo.y)))
 
 -- the later state lists `more` points after those of the earlier one, and in the box the two fronts are alike: the same lines have boxes that
 -- meet it, and they wind equally often round each point in it; and the later front has no greater area
