@@ -34,3 +34,9 @@ pub mod Judged
 -- OverRules: the search over all rules. FoundParts: the application that a find gives.
 pub mod OverRules
 pub mod FoundParts
+-- The law Near: a candidate's places lie in its reach.
+pub mod WithinReach
+-- A candidate by places is one by numbers; a later candidate is an earlier one.
+pub mod NearBack
+-- FarAway: elements in a box leave a front alike in each box apart from it.
+pub mod FarAway

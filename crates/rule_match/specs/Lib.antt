@@ -18,3 +18,5 @@ pub mod Around
 pub mod Base
 -- Passed: what a search over the rules owes.
 pub mod Passed
+-- Near: when a later state is, near a line, as an earlier one was.
+pub mod Near
