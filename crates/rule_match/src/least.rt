@@ -100,7 +100,8 @@ fn application_of(
     found: &Found,
 ) -> Result<Application, AllocError>
     requires { IsFind base.now rules.now found.now }
-    ensures { IfOk result (λ a. (t : Attempt) → IsOn base.now rules.now t → IsCandidate (state_at base.now) t →
+    ensures { IfOk result (λ a. (t : Attempt) → IsOn base.now rules.now t →
+        IsCandidate (state_at base.now) t →
         found.now ≡ rank (state_at base.now) t → a ≡ application (state_at base.now) t) }
 {
     let (front, rule) = (base.front(), rules.get(found.rule));
