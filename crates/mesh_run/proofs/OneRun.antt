@@ -3,12 +3,10 @@ use Rattle.std.proofs.Common.{◌≡◌, ℕ, ◌+◌, ◌-◌, ◌<◌, ◌≤�
 use Rattle.std.specs.Prelude.{slice_get}
 use Rattle.std.specs.List.{AllZip, Contains}
 use Rattle.std.proofs.lemmas.Bool.{cases_order}
-use Rattle.grid_geom.specs.declared.Point.{Point}
 use Rattle.geom_check.specs.Domains.{domain_numbers}
 use Rattle.geom_check.specs.Geometry.{PlanarMap}
 use Rattle.rule_reader.specs.declared.rule.Rule.{Rule}
-use Rattle.rule_maps.specs.Frame.{LocalFrame, IsFrameOf}
-use Rattle.rule_maps.proofs.Frames.{one_frame}
+use Rattle.rule_maps.specs.Frame.{IsFrameOf}
 use Rattle.size_field.specs.Size.{SizeField, size_at}
 use Rattle.state_law.specs.State.{State, point_at}
 use Rattle.rule_match.specs.declared.application.Application.{Application}

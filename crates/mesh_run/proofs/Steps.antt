@@ -1,6 +1,6 @@
 -- The application of a candidate may be made, and what a run keeps of its state is kept by it.
 -- By numbers and by places an application is the same: state_law's law of numbers, element by element.
-use Rattle.std.proofs.Common.{◌≡◌, ℕ, zero, suc, ◌+◌, ◌<◌, ◌≤◌, List, [], ◌∷◌, ◌++◌, map, length, slice_index_or, refl, sym, ap, ◌∙◌, subst, arith, inl, inr, ◌⊎◌, ℤ, pos, ◌+ℤ◌, ◌<ℤ◌, ◌≤ℤ◌}
+use Rattle.std.proofs.Common.{◌≡◌, ℕ, suc, ◌+◌, ◌<◌, ◌≤◌, List, [], ◌∷◌, ◌++◌, map, length, refl, sym, ◌∙◌, subst, arith, ℤ, pos, ◌+ℤ◌, ◌<ℤ◌, ◌≤ℤ◌}
 use Rattle.std.specs.List.{All, AllByRecursion, IsDistinct}
 use Rattle.std.proofs.lemmas.Int.{ints}
 use Rattle.std.proofs.lemmas.List.{length-map, map-append}
@@ -23,13 +23,11 @@ use Rattle.state_law.proofs.KeptOn.{kept_on}
 use Rattle.state_law.proofs.Lists.{all_append, all_map}
 use Rattle.state_law.proofs.Numbers.{glued_edges, glued_numbered}
 use Rattle.state_law.proofs.Region.{kept_of}
-use Rattle.rule_reader.specs.declared.rule.Place.{Place}
 use Rattle.rule_reader.specs.Normal.{IsRule, Names}
-use Rattle.rule_maps.specs.Places.{Mapping}
 use Rattle.admission.specs.Admission.{glued_on, MayFollow}
 use Rattle.rule_match.specs.declared.application.Application.{Application}
 use Rattle.rule_match.specs.Applied.{application}
-use Rattle.rule_match.specs.Candidate.{Attempt, IsCandidate, IsFrontPoint, made, made_from, mapping}
+use Rattle.rule_match.specs.Candidate.{Attempt, IsCandidate, IsFrontPoint, made, mapping}
 use Rattle.rule_match.proofs.FoundParts.{point_listed}
 use Rattle.rule_match.proofs.NewParts.{as_many}
 use Rattle.mesh_run.specs.Reached.{IsReached, MayBeApplied, elements_at, front_at}

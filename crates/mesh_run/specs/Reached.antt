@@ -1,8 +1,11 @@
--- What a run keeps of a domain's state, application by application, and what each application of it has.
+-- What a run keeps of a domain's state, application by application, and what each application of it
+-- has.
 --
--- front_at, elements_at   the front lines of a state as edges between places, and its elements by their corners' places
+-- front_at, elements_at   the front lines of a state as edges between places, and its elements by
+--                         their corners' places
 -- IsReached               what is kept
--- MayBeApplied            what an application has: new places, listed corners, elements that may be glued one after another
+-- MayBeApplied            what an application has: new places, listed corners, elements that may be
+--                         glued one after another
 use Rattle.std.specs.Prelude.{◌≡◌, List, [], ◌++◌, length, map}
 use Rattle.std.specs.List.{All, AllByRecursion, IsDistinct}
 use Rattle.grid_geom.specs.declared.Point.{Point}
@@ -23,8 +26,10 @@ front_at st = front_edges st.points st.front
 abbrev pub elements_at : State → List (List Point)
 elements_at st = map (corners_of st.points) st.elements
 
--- what a run keeps of its state: points are different grid points, front lines and elements join listed points, elements are strictly convex, the
--- front lines don't tangle and wind 0 times or once round each point off the state's edges; and each edge stands in the domain's boundary as often
+-- what a run keeps of its state: points are different grid points, front lines and elements join
+-- listed points, elements are strictly convex, the
+-- front lines don't tangle and wind 0 times or once round each point off the state's edges; and
+-- each edge stands in the domain's boundary as often
 -- more than its reverse as in the front and the elements together
 pub record IsReached (boundary : List Edge) (st : State) : Type 0 where
   pub numbered : IsNumbered st
@@ -33,7 +38,8 @@ pub record IsReached (boundary : List Edge) (st : State) : Type 0 where
       (λ ns. AllByRecursion (IsListed (length st.points)) ns) st.elements
   pub kept : IsKept boundary [] (front_at st) (elements_at st)
 
--- what an application has in the state at which it is made: its new points are different grid points and none of them is a listed place; its elements
+-- what an application has in the state at which it is made: its new points are different grid
+-- points and none of them is a listed place; its elements
 -- are triangles of listed and new points, and may be glued one after another
 pub record MayBeApplied (st : State) (a : Application) : Type 0 where
   pub different : IsDistinct same_point (st.points ++ a.made)

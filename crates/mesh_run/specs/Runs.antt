@@ -45,7 +45,8 @@ setting_of g rules options d = record {
   last = options.last;
 }
 
--- the run of the domain: it begins with the opening, each application is the next one, at most as many are made as are allowed, the points and the front
+-- the run of the domain: it begins with the opening, each application is the next one, at most as
+-- many are made as are allowed, the points and the front
 -- are those of the last state, and the end is that of this state
 pub record IsDomainRun (g : PlanarMap) (rules : List Rule) (options : Options) (d : ℕ) (r : DomainRun) : Type 0 where
   pub domain : r.domain ≡ d
@@ -58,7 +59,8 @@ pub record IsDomainRun (g : PlanarMap) (rules : List Rule) (options : Options) (
   pub ended : IsEndOf (setting_of g rules options d) options.limit
       (state_after (opening_of g options d) r.applications) (length r.applications) r.end
 
--- the runs of the domains that the segments name, by rising number; Stopped if one is, else Stuck if one is, else Done
+-- the runs of the domains that the segments name, by rising number; Stopped if one is, else Stuck
+-- if one is, else Done
 pub record IsWholeRun (g : PlanarMap) (rules : List Rule) (options : Options) (w : WholeRun) : Type 0 where
   pub shift : w.shift ≡ g.shift
   pub with_options : w.options ≡ options

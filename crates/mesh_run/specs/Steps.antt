@@ -1,11 +1,15 @@
--- The run of a domain by rules: which application comes next, the states one after another, and how the run ends.
--- Origin: the advancing front of Schoeberl 1997, with this project's own order of candidates. The definitions look at all lines, classes, rules and points; the code keeps a list of lines to try.
+-- The run of a domain by rules: which application comes next, the states one after another, and how
+-- the run ends.
+-- Origin: the advancing front of Schoeberl 1997, with this project's own order of candidates. The
+-- definitions look at all lines, classes, rules and points; the code keeps a list of lines to try.
 --
 -- RunSetting       what a domain's run stands on
--- IsNext           an application is that of the least candidate: of the least class, then of the least line
+-- IsNext           an application is that of the least candidate: of the least class, then of the
+--                  least line
 -- NothingApplies   no front line has a candidate at any class
 -- applied          the state after an application
--- state_after      the state after applications, one after another; AreNext, each of which is the next one
+-- state_after      the state after applications, one after another; AreNext, each of which is the
+--                  next one
 -- IsEndOf          how a run ends
 use Rattle.std.specs.Prelude.{ℕ, ◌≡◌, ◌≢◌, ◌⊎◌, ◌≤◌, ◌<◌, List, [], ◌∷◌, ◌++◌, Option, None, Some}
 use Rattle.grid_geom.specs.declared.Point.{Point}
@@ -29,7 +33,8 @@ pub record RunSetting : Type 0 where
 abbrev pub IsBefore : ℕ → ℕ → Application → Type 0
 IsBefore class line a = (class < a.class) ⊎ ((class ≡ a.class) × (line < a.line))
 
--- the application is that of the least candidate of all: by class, then by line, then by the order on a line
+-- the application is that of the least candidate of all: by class, then by line, then by the order
+-- on a line
 pub record IsNext (s : RunSetting) (st : State) (a : Application) : Type 0 where
   pub first_class : 1 ≤ a.class
   pub last_class : a.class ≤ s.last
@@ -46,7 +51,8 @@ pub record NothingApplies (s : RunSetting) (st : State) : Type 0 where
 abbrev pub with_points : State → List Point → State
 with_points st made = record st { points = st.points ++ made }
 
--- the state after an application: its new points are listed, and its elements glued one after another
+-- the state after an application: its new points are listed, and its elements glued one after
+-- another
 abbrev pub applied : State → Application → State
 applied st a = glued_on (with_points st a.made) a.elements
 
@@ -76,7 +82,8 @@ pub record HasNext (s : RunSetting) (st : State) : Type 0 where
   pub application : Application
   pub next : IsNext s st application
 
--- how the run ends that has come to this state: Done where no front is left; Stuck where one is left and nothing applies; Stopped where
+-- how the run ends that has come to this state: Done where no front is left; Stuck where one is
+-- left and nothing applies; Stopped where
 -- something applies, and no further application is allowed
 abbrev pub IsEndOf : RunSetting → Option ℕ → State → ℕ → End → Type 0
 IsEndOf s limit st made Done = st.front ≡ []

@@ -1,12 +1,16 @@
--- How the elements and the front that is left add up to a domain: after each application of its run, and in the mesh that is written.
+-- How the elements and the front that is left add up to a domain: after each application of its
+-- run, and in the mesh that is written.
 --
 -- sum_of_elements   how often elements wind round a point in all
 -- IsOffEdges        a rational point off all segments, off a front and off the sides of elements
--- AddsUp            round the point elements and front wind as often as the boundary in all, each 0 times or once
+-- AddsUp            round the point elements and front wind as often as the boundary in all, each 0
+--                   times or once
 -- AddUp             so it is round each such point
--- IsCovered         so it is after each application, and there are at most as many as the boundary's doubled area
+-- IsCovered         so it is after each application, and there are at most as many as the
+--                   boundary's doubled area
 -- elements_in       the elements of a domain in a mesh
--- IsFilled          so it is of each domain, application by application and in the mesh; AreCovered, of all domains of a run
+-- IsFilled          so it is of each domain, application by application and in the mesh;
+--                   AreCovered, of all domains of a run
 use Rattle.std.specs.Prelude.{ℕ, ◌≡◌, ◌≤◌, ◌==◌, List, [], ◌∷◌, map, filter, length, take, pos, ◌+ℤ◌, ℤ}
 use Rattle.std.specs.List.{AllByRecursion, AllZip}
 use Rattle.grid_geom.specs.declared.Point.{Point}
@@ -47,7 +51,8 @@ pub record IsOffEdges (g : PlanarMap) (elements : List (List Point)) (front : Li
   pub off_elements : IsOff q (all_sides elements)
   pub off_front : IsOff q front
 
--- the domain's boundary winds round the point as often as the elements and the front in all, and each of these 0 times or once
+-- the domain's boundary winds round the point as often as the elements and the front in all, and
+-- each of these 0 times or once
 pub record AddsUp (g : PlanarMap) (d : ℕ) (elements : List (List Point)) (front : List Edge) (q : RatPoint) : Type 0 where
   pub sum : wind q (boundary g.points d g.segments) ≡ sum_of_elements q elements +ℤ wind q front
   pub elements_once : AllByRecursion (λ corners. IsZeroOrOne (wind q (sides corners))) elements
@@ -58,7 +63,8 @@ abbrev pub AddUp : PlanarMap → ℕ → List (List Point) → List Edge → Typ
 AddUp g d elements front = (q : RatPoint) → IsOffEdges g elements front q
     → AddsUp g d elements front q
 
--- so they do after each of the applications; and of these there are at most as many as the domain's doubled area
+-- so they do after each of the applications; and of these there are at most as many as the domain's
+-- doubled area
 pub record IsCovered (g : PlanarMap) (d : ℕ) (opening : State) (applications : List Application) : Type 0 where
   pub adds_up : (k : ℕ) → k ≤ length applications
       → AddUp g d (elements_at (state_after opening (take k applications)))
@@ -69,7 +75,8 @@ pub record IsCovered (g : PlanarMap) (d : ℕ) (opening : State) (applications :
 abbrev pub elements_in : ℕ → Mesh → List (List Point)
 elements_in d m = map (λ e. corners_of m.points e.corners) (filter (λ e. e.domain == d) m.elements)
 
--- elements and front add up to the domain: after each application of its run r, and in the mesh, with the front that is left in the end
+-- elements and front add up to the domain: after each application of its run r, and in the mesh,
+-- with the front that is left in the end
 pub record IsFilled (g : PlanarMap) (options : Options) (m : Mesh) (d : ℕ) (r : DomainRun) : Type 0 where
   pub after_each : IsCovered g d (opening_of g options d) r.applications
   pub in_mesh : AddUp g d (elements_in d m) (front_edges r)

@@ -1,4 +1,4 @@
-//! The laws of an opening, each as the contract of a function that does nothing.
+//! The laws of openings and runs, each as the contract of a function that does nothing.
 
 ghost use Rattle.std.specs.Prelude.{◌≡◌, ◌<◌, ◌≤◌, ℕ, List, All, length, take, true, Option, None, [], ◌↔◌, ◌≢◌};
 ghost use Rattle.std.specs.List.{AllZip, IsDistinct};
@@ -39,7 +39,8 @@ ghost use Rattle.rule_match.specs.Applied.{application};
 ghost use Rattle.rule_match.specs.Candidate.{Attempt, IsCandidate};
 ghost use Rattle.state_law.specs.State.{State, front_edges as edges_of_front};
 
-/// The front with which a domain begins is the domain's boundary, edge by edge, so it winds round each point as the boundary does.
+/// The front with which a domain begins is the domain's boundary, edge by edge, so it winds round
+/// each point as the boundary does.
 pub fn law_front()
     ensures edges { (d : ℕ) (segments : List Segment) (pieces : List Piece) →
         front_edges (unmeshed_run d segments pieces) ≡ piece_boundary d segments pieces }
@@ -81,7 +82,8 @@ pub fn law_cut()
         IsRegion (front_edges (unmeshed_run d g.segments (pieces_of g greatest grading))) }
 {}
 
-/// Points by first occurrence are different points, the same ones that were given, and each is the one with its number. The one that occurs first has the smaller number.
+/// Points by first occurrence are different points, the same ones that were given, and each is the
+/// one with its number. The one that occurs first has the smaller number.
 pub fn law_numbering()
     ensures different { (ps : List Point) → IsDistinct same_point (by_first_occurrence ps) }
     ensures same { (ps : List Point) (p : Point) →
@@ -94,7 +96,8 @@ pub fn law_numbering()
         number_in (by_first_occurrence ps) p < number_in (by_first_occurrence ps) q }
 {}
 
-/// Each number that a front line of an opening names is one of the domain's points, and each that an edge row names one of the mesh's; and these are grid points where the pieces' ends are.
+/// Each number that a front line of an opening names is one of the domain's points, and each that an
+/// edge row names one of the mesh's; and these are grid points where the pieces' ends are.
 pub fn law_ranges()
     ensures front { (d : ℕ) (segments : List Segment) (pieces : List Piece) →
         All (FrontJoins (length (unmeshed_run d segments pieces).points))
@@ -135,12 +138,14 @@ pub fn law_reached()
     ensures region { (b : List Edge) (st : State) → IsReached b st → IsRegion (front_at st) }
 {}
 
-/// After each application of a run the elements and the front that is left add up to the domain, at each
+/// After each application of a run the elements and the front that is left add up to the domain, at
+/// each
 /// rational point off all segments and off their own edges: the boundary's winding number there is the
 /// sum of theirs, each 0 or 1. There are at most as many applications as the domain's doubled area. All
 /// the while the run keeps of its state what it kept.
 ///
-/// So it is of each domain of a whole run, and so it is in the mesh that is written, with the front that
+/// So it is of each domain of a whole run, and so it is in the mesh that is written, with the front
+/// that
 /// is left in the end.
 pub fn law_sums()
     ensures whole { (g : PlanarMap) (rules : List Rule) (options : Options) (w : WholeRun) →
@@ -156,7 +161,8 @@ pub fn law_sums()
         IsReached b (state_after st (take k applications)) }
 {}
 
-/// The elements of a run by rules and the front lines that are left name points of the domain, which are
+/// The elements of a run by rules and the front lines that are left name points of the domain, which
+/// are
 /// grid points.
 pub fn law_names()
     ensures names { (g : PlanarMap) (rules : List Rule) (options : Options) (d : ℕ)
@@ -189,7 +195,8 @@ pub fn law_one_run()
         IsEndOf s limit st made e → IsEndOf s limit st made f → e ≡ f }
 {}
 
-/// A whole run is Done exactly where no domain's front is left. Where no limit is given it is else Stuck,
+/// A whole run is Done exactly where no domain's front is left. Where no limit is given it is else
+/// Stuck,
 /// and in each domain of which a front is left nothing applies; no such run is Stopped.
 pub fn law_ends()
     ensures done { (g : PlanarMap) (rules : List Rule) (options : Options) (w : WholeRun) →

@@ -1,6 +1,7 @@
 -- What a search over the rules owes: of one rule on a base line, and of all rules so far.
 --
--- IsPassed       a rule is passed: what is found isn't after any of its candidates on the base line, and is no other
+-- IsPassed       a rule is passed: what is found isn't after any of its candidates on the base
+--                line, and is no other
 -- IsOn           an attempt on the base line by a rule of the list
 -- IsFind         what is found is such an attempt, and a candidate
 -- IsLeastSoFar   what is found is the least of the candidates by the first so many rules
@@ -29,7 +30,8 @@ Holds t b = IsCandidate (state_at t.base) (attempt_of t b)
 abbrev pub rank_of : Tried → List ℕ → Found
 rank_of t b = rank (state_at t.base) (attempt_of t b)
 
--- the rule is passed on the base line: what is found was found before, or is a candidate by the rule; and it isn't after any candidate by the rule
+-- the rule is passed on the base line: what is found was found before, or is a candidate by the
+-- rule; and it isn't after any candidate by the rule
 pub record IsPassed (t : Tried) (old new : Progress) : Type 0 where
   pub advance : IsAdvance (Holds t) (rank_of t) old new
   pub least : (b : List ℕ) → length b ≡ length t.rule.points
