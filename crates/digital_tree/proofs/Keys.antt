@@ -87,8 +87,8 @@ module _ {V : Type 0} where
   spots b p [] h = tt
   spots b p (e ∷ es) h = (spot_step b (p e) e (filter p es) h, spots b p es (rest_step b (p e) e (filter p es) h))
 
-  pub kept_spot : (es : List (Entry V)) (kept : Slab (Bounds × V)) (k : Key) (b : Bounds) (v : V) → AreKept es kept → get kept k.slot ≡ Some (b, v) → IsSpot k b es
-  kept_spot es kept k b v a h = record { box = spots b (has_key k) es (subst (AllByRecursion (λ x. x.0 ≡ b)) (sym (a.same k ∙ ap option_to_list h)) (refl, tt)) }
+  pub kept_spot : (es : List (Entry V)) (kept : Slab (Bounds × V)) (k : Key) (x : Bounds × V) → AreKept es kept → get kept k.slot ≡ Some x → IsSpot k x.0 es
+  kept_spot es kept k x a h = record { box = spots x.0 (has_key k) es (subst (AllByRecursion (λ y. y.0 ≡ x.0)) (sym (a.same k ∙ ap option_to_list h)) (refl, tt)) }
 
   -- the next hit, where the key is there and where it isn't
   one_more : (e : Entry V) (es : List (Entry V)) (n : ℕ) → drop (1 + n + 1) (e ∷ es) ≡ drop (n + 1) es
@@ -143,34 +143,55 @@ module _ {V : Type 0} where
   other_slot : (e : Entry V) (k : Key) → has_key k e ≡ false → k.slot ≢ e.key.slot
   other_slot e k h = λ same. let wrong : has_key k e ≡ true = grind arith in absurd cc
 
-  inserted_at : (es more : List (Entry V)) (kept new : Slab (Bounds × V)) (e : Entry V) (k : Key) (t : Bool) → has_key k e ≡ t → AreKept es kept → IsInserted e es more
-      → get kept e.key.slot ≡ None → Updates kept new e.key.slot (Some (held e)) → map held (filter (has_key k) more) ≡ option_to_list (get new k.slot)
-  inserted_at es more kept new e k true h a i free u =
+  -- an entry put in, under a key that was free, and held under it
+  record IsPut (es more : List (Entry V)) (kept new : Slab (Bounds × V)) (e : Entry V) : Type 0 where
+    was : AreKept es kept
+    put : IsInserted e es more
+    free : get kept e.key.slot ≡ None
+    updates : Updates kept new e.key.slot (Some (held e))
+
+  put_at : (es more : List (Entry V)) (kept new : Slab (Bounds × V)) (e : Entry V) → IsPut es more kept new e → (k : Key) (t : Bool) → has_key k e ≡ t → map held (filter (has_key k) more) ≡ option_to_list (get new k.slot)
+  put_at es more kept new e p k true h =
       let same = same_slot e k h in
-      put_here es more e k i h (a.same k ∙ ap option_to_list (ap (get kept) same ∙ free)) ∙ ap option_to_list (sym (ap (get new) same ∙ u.changed))
-  inserted_at es more kept new e k false h a i free u =
-      same_but es more e k i h ∙ a.same k ∙ ap option_to_list (sym (u.others k.slot (other_slot e k h)))
+      put_here es more e k p.put h (p.was.same k ∙ ap option_to_list (ap (get kept) same ∙ p.free)) ∙ ap option_to_list (sym (ap (get new) same ∙ p.updates.changed))
+  put_at es more kept new e p k false h =
+      same_but es more e k p.put h ∙ p.was.same k ∙ ap option_to_list (sym (p.updates.others k.slot (other_slot e k h)))
 
   pub kept_inserted : (es more : List (Entry V)) (kept new : Slab (Bounds × V)) (e : Entry V) → AreKept es kept → IsInserted e es more
       → get kept e.key.slot ≡ None → Updates kept new e.key.slot (Some (held e)) → AreKept more new
-  kept_inserted es more kept new e a i free u = record { same = λ k. inserted_at es more kept new e k (has_key k e) refl a i free u }
+  kept_inserted es more kept new e a i free u = record { same = λ k. put_at es more kept new e (record { was = a; put = i; free = free; updates = u }) k (has_key k e) refl }
 
-  removed_at : (es less : List (Entry V)) (kept new : Slab (Bounds × V)) (e : Entry V) (x : Bounds × V) (k : Key) (t : Bool) → has_key k e ≡ t → AreKept es kept → IsInserted e less es
-      → get kept e.key.slot ≡ Some x → Updates kept new e.key.slot None → map held (filter (has_key k) less) ≡ option_to_list (get new k.slot)
-  removed_at es less kept new e x k true h a i was u =
+  -- an entry taken out, and nothing held under its key any more
+  record IsTakenOut (es less : List (Entry V)) (kept new : Slab (Bounds × V)) (e : Entry V) : Type 0 where
+    was : AreKept es kept
+    out : IsInserted e less es
+    held : Bounds × V
+    there : get kept e.key.slot ≡ Some held
+    updates : Updates kept new e.key.slot None
+
+  out_at : (es less : List (Entry V)) (kept new : Slab (Bounds × V)) (e : Entry V) → IsTakenOut es less kept new e → (k : Key) (t : Bool) → has_key k e ≡ t → map held (filter (has_key k) less) ≡ option_to_list (get new k.slot)
+  out_at es less kept new e o k true h =
       let same = same_slot e k h in
-      taken_here less es e k x i h (a.same k ∙ ap option_to_list (ap (get kept) same ∙ was)) ∙ ap option_to_list (sym (ap (get new) same ∙ u.changed))
-  removed_at es less kept new e x k false h a i was u =
-      sym (same_but less es e k i h) ∙ a.same k ∙ ap option_to_list (sym (u.others k.slot (other_slot e k h)))
+      taken_here less es e k o.held o.out h (o.was.same k ∙ ap option_to_list (ap (get kept) same ∙ o.there)) ∙ ap option_to_list (sym (ap (get new) same ∙ o.updates.changed))
+  out_at es less kept new e o k false h =
+      sym (same_but less es e k o.out h) ∙ o.was.same k ∙ ap option_to_list (sym (o.updates.others k.slot (other_slot e k h)))
 
   pub kept_removed : (es less : List (Entry V)) (kept new : Slab (Bounds × V)) (k : Key) (x : Bounds × V) → AreKept es kept → IsRemoved k es less
       → get kept k.slot ≡ Some x → Updates kept new k.slot None → AreKept less new
   kept_removed es less kept new k x a r was u =
       let slot : k.slot ≡ r.entry.key.slot = ap (λ k. k.slot) (sym r.key) in
-      record { same = λ j. removed_at es less kept new r.entry x j (has_key j r.entry) refl a r.gone (subst (λ s. get kept s ≡ Some x) slot was) (subst (λ s. Updates kept new s None) slot u) }
+      record {
+        same = λ j. out_at es less kept new r.entry (record {
+          was = a;
+          out = r.gone;
+          held = x;
+          there = subst (λ s. get kept s ≡ Some x) slot was;
+          updates = subst (λ s. Updates kept new s None) slot u;
+        }) j (has_key j r.entry) refl;
+      }
 
   -- an entry that is held is there to be taken out
-  pub sure_removed : (es less : List (Entry V)) (kept : Slab (Bounds × V)) (k : Key) (b : Bounds) (v : V) (was_here : Bool) → AreKept es kept → get kept k.slot ≡ Some (b, v)
-      → (was_here ≡ true → IsRemoved k es less) → (was_here ≡ false → IsSpot k b es → IsAbsent k es) → IsRemoved k es less
-  sure_removed es less kept k b v was_here a is removed absent =
-      surely was_here removed (λ e. kept_there es kept k (b, v) a is (absent e (kept_spot es kept k b v a is)))
+  pub sure_removed : (es less : List (Entry V)) (kept : Slab (Bounds × V)) (k : Key) (x : Bounds × V) (was_here : Bool) → AreKept es kept → get kept k.slot ≡ Some x
+      → (was_here ≡ true → IsRemoved k es less) → (was_here ≡ false → IsSpot k x.0 es → IsAbsent k es) → IsRemoved k es less
+  sure_removed es less kept k x was_here a is removed absent =
+      surely was_here removed (λ e. kept_there es kept k x a is (absent e (kept_spot es kept k x a is)))

@@ -1,6 +1,7 @@
 // Boxes that hold boxes.
 ghost use Rattle.std.specs.Prelude.{◌↔◌, ◌≡◌, ◌≤ℤ◌, IsTrue};
 ghost use Rattle.std.specs.Int.{int_max, int_min};
+ghost use Rattle.grid_geom.specs.declared.Bounds.{Bounds as AnyBounds};
 ghost use Rattle.digital_tree.specs.Boxes.{IsWithin};
 
 use grid_geom::{Bounds, Point};
@@ -37,6 +38,7 @@ fn greater(a: &i64, b: &i64) -> i64
 pub fn union(a: &Bounds, b: &Bounds) -> Bounds
     ensures first { IsWithin a.now result }
     ensures second { IsWithin b.now result }
+    ensures least { (c : AnyBounds) → IsWithin a.now c → IsWithin b.now c → IsWithin result c }
 {
     Bounds {
         lo: Point {

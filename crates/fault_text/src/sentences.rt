@@ -57,7 +57,7 @@ pub fn sentence(alloc: Global, refused: &Refused<'_>) -> Result<String, AllocErr
 
 /// Writes which file the folder refused, and why.
 fn write_folder(text: &mut String, name: &str, fault: u32) -> Result<(), AllocError> {
-    writing::push_shown(text, name.as_bytes())?;
+    writing::push_name(text, name)?;
     text.push_str(match fault {
         2 => ": refused: the file is longer than 1048576 bytes",
         3 => ": refused: there is no such file",

@@ -9,26 +9,29 @@ use word_scan::Style;
 /// How many bytes of a word are shown.
 const SHOWN: usize = 40;
 
-/// Adds bytes so that each can be seen: what is no printable ASCII sign as `\x` and two digits; of a long
-/// word the first bytes.
-pub(crate) fn push_shown(text: &mut String, bytes: &[u8]) -> Result<(), AllocError> {
-    for byte in bytes.iter().take(SHOWN) {
+/// Adds a name, with its control signs as `\x` and two digits.
+pub(crate) fn push_name(text: &mut String, name: &str) -> Result<(), AllocError> {
+    for sign in name.chars() {
+        if sign.is_control() {
+            write!(text, "\\x{:02x}", u32::from(sign))?;
+        } else {
+            text.push(sign)?;
+        }
+    }
+    Ok(())
+}
+
+/// Adds a word between quotes, of a long one the first bytes. What is no printable ASCII sign is shown as
+/// `\x` and two digits.
+pub(crate) fn push_quoted(text: &mut String, word: &[u8]) -> Result<(), AllocError> {
+    text.push_str("'")?;
+    for byte in word.iter().take(SHOWN) {
         match *byte {
             b' '..=b'~' => text.push(char::from(*byte))?,
             other => write!(text, "\\x{other:02x}")?,
         }
     }
-    if bytes.len() > SHOWN {
-        text.push_str("..")?;
-    }
-    Ok(())
-}
-
-/// Adds a word between quotes.
-pub(crate) fn push_quoted(text: &mut String, bytes: &[u8]) -> Result<(), AllocError> {
-    text.push_str("'")?;
-    push_shown(text, bytes)?;
-    text.push_str("'")
+    text.push_str(if word.len() > SHOWN { "..'" } else { "'" })
 }
 
 /// Adds the file's name, the place where it is known, and that it is refused.
@@ -37,7 +40,7 @@ pub(crate) fn push_place(
     file: &File<'_>,
     spot: Option<&Spot<'_>>,
 ) -> Result<(), AllocError> {
-    push_shown(text, file.name.as_bytes())?;
+    push_name(text, file.name)?;
     if let Some(spot) = spot {
         let (line, column) = (spot.at.line, spot.at.column);
         write!(text, ":{line}:{column}")?;

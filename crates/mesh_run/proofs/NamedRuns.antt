@@ -42,9 +42,10 @@ pub corners_named : (b : List Edge) (s : RunSetting) (st : State) (more : List A
 corners_named b s st [] r can n = tt
 corners_named b s st (a ∷ more) r can n =
     let may = may_next b s st a r can n.0 in let after = applied st a in
-    let wider : (k : ℕ) → IsListed (length (st.points ++ a.made)) k → IsListed (length (state_after after more).points) k = λ k l. (l.0, omega (arith, l.1, count_after st a, grows after more)) in
-    (all_map (λ ns. AllByRecursion (IsListed (length (st.points ++ a.made))) ns) (λ ns. AllByRecursion (IsListed (length (state_after after more).points)) ns) (λ ns l. all_map _ _ wider ns l) a.elements may.listed,
-    corners_named b s after more (reached_after b st a r may) can n.1)
+    let wider : (k : ℕ) → IsListed (length (st.points ++ a.made)) k → IsListed (length (state_after after more).points) k = λ k l. (l.0, omega (arith, l.1, count_after st a, grows after more)) in (
+      all_map (λ ns. AllByRecursion (IsListed (length (st.points ++ a.made))) ns) (λ ns. AllByRecursion (IsListed (length (state_after after more).points)) ns) (λ ns l. all_map _ _ wider ns l) a.elements may.listed,
+      corners_named b s after more (reached_after b st a r may) can n.1,
+    )
 
 -- as mesh_of asks for them
 numbers_of : (n : ℕ) (ns : List ℕ) → AllByRecursion (IsListed n) ns → All (IsNumberTo n) ns

@@ -17,6 +17,7 @@ use Rattle.rule_match.specs.Best.{IsBest}
 use Rattle.rule_match.specs.Candidate.{Attempt, IsCandidate, nth}
 use Rattle.rule_match.specs.Least.{IsOf}
 use Rattle.rule_match.proofs.OneLeast.{one_least}
+use Rattle.rule_match.proofs.OverRules.{same_frame}
 use Rattle.mesh_run.specs.declared.End.{End}
 use Rattle.mesh_run.specs.declared.End.TheVariants.{Done, Stuck, Stopped}
 use Rattle.mesh_run.specs.declared.Options.{Options}
@@ -35,11 +36,6 @@ same_text : (x y : Rule) → Some x ≡ Some y → x ≡ y
 unfolding or_other
 same_text x y e = ap (or_other x) e
 
-frame_middle : (p q : Point) (sizes : SizeField) (f g : LocalFrame) → IsFrameOf p q (size_at sizes f.middle) f → IsFrameOf p q (size_at sizes g.middle) g → f ≡ g
-frame_middle p q sizes f g h k =
-    let same : f.middle ≡ g.middle = λ i. record { x = (h.middle_x ∙ sym k.middle_x) i; y = (h.middle_y ∙ sym k.middle_y) i } in
-    one_frame p q (size_at sizes g.middle) f g (subst (λ (m : Point). IsFrameOf p q (size_at sizes m) f) same h) k
-
 one_attempt : (sizes : SizeField) (st : State) (rules : List Rule) (line class : ℕ) (t u : Attempt) → IsOf sizes st rules line class t → IsOf sizes st rules line class u → IsCandidate st t → IsCandidate st u
     → t.rule ≡ u.rule → t.points ≡ u.points → t ≡ u
 one_attempt sizes st rules line class t u h k c e same_rule same_points =
@@ -49,7 +45,7 @@ one_attempt sizes st rules line class t u h k c e same_rule same_points =
     let lines : t.line ≡ u.line = λ i. ((h.same_line ∙ sym k.same_line) i, starts i, ends i) in
     let framed : IsFrameOf (point_at st.points u.line.1) (point_at st.points u.line.2) (size_at sizes t.frame.middle) t.frame =
     subst (λ (l : ℕ × ℕ × ℕ). IsFrameOf (point_at st.points l.1) (point_at st.points l.2) (size_at sizes t.frame.middle) t.frame) lines h.framed in
-    let frames : t.frame ≡ u.frame = frame_middle (point_at st.points u.line.1) (point_at st.points u.line.2) sizes t.frame u.frame framed k.framed in
+    let frames : t.frame ≡ u.frame = same_frame (point_at st.points u.line.1) (point_at st.points u.line.2) sizes t.frame u.frame framed k.framed in
     let texts : t.text ≡ u.text = same_text t.text u.text (sym h.is_rule ∙ ap (λ (n : ℕ). slice_get rules (n - 1)) same_rule ∙ k.is_rule) in
     λ i. record { class = classes i; line = lines i; frame = frames i; rule = same_rule i; text = texts i; points = same_points i }
 

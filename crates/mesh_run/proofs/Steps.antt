@@ -30,6 +30,8 @@ use Rattle.admission.specs.Admission.{glued_on, MayFollow}
 use Rattle.rule_match.specs.declared.application.Application.{Application}
 use Rattle.rule_match.specs.Applied.{application}
 use Rattle.rule_match.specs.Candidate.{Attempt, IsCandidate, IsFrontPoint, made, made_from, mapping}
+use Rattle.rule_match.proofs.FoundParts.{point_listed}
+use Rattle.rule_match.proofs.NewParts.{as_many}
 use Rattle.mesh_run.specs.Reached.{IsReached, MayBeApplied, elements_at, front_at}
 use Rattle.mesh_run.specs.Runs.{opening_state}
 use Rattle.mesh_run.specs.Steps.{applied, with_points}
@@ -111,25 +113,6 @@ area_after b st a r m =
     by w (ns ∷ els) n l m h = left_on w ns els n l m
 
 -- ---- candidates
-at_any : {X : Type 0} (Q : X → Type 0) (xs : List X) (k : ℕ) (x : X) → AllByRecursion Q xs → k < length xs → slice_index_or xs k x ≡ x → Q x
-at_any Q [] k x h w e = absurd (omega (arith, w))
-at_any Q (y ∷ xs) zero x h w e = subst Q e h.0
-at_any Q (y ∷ xs) (suc k) x h w e = at_any Q xs k x h.1 (omega (arith, w)) e
-
--- front points are listed
-front_listed : (st : State) (n : ℕ) → AreJoined st.points st.front → IsFrontPoint st n → IsListed (length st.points) n
-front_listed st n joined f =
-    let ends = at_any (λ (line : ℕ × ℕ × ℕ). IsListed (length st.points) line.1 × IsListed (length st.points) line.2) st.front f.0 f.1 joined f.2 f.3 in
-    by f.4 ends
-  where
-    by : (f.1.1 ≡ n) ⊎ (f.1.2 ≡ n) → IsListed (length st.points) f.1.1 × IsListed (length st.points) f.1.2 → IsListed (length st.points) n
-    by (inl e) l = subst (IsListed (length st.points)) e l.0
-    by (inr e) l = subst (IsListed (length st.points)) e l.1
-
-made_count : (m : Mapping) (k : ℕ) (ps : List Place) → length (made_from m k ps) ≡ length ps
-made_count m k [] = refl
-made_count m k (p ∷ ps) = ap suc (made_count m (k + 1) ps)
-
 -- the elements of a rule, each three of so many points
 abbrev AreTriangles : ℕ → List (List ℕ) → Type 0
 AreTriangles count els = AllByRecursion (λ e. (length e ≡ 3) × AllByRecursion (Names count) e) els
@@ -151,8 +134,8 @@ three_each points more mapped count (ns ∷ els) h = (length-map ns (number_of p
 pub may_apply : (b : List Edge) (st : State) (t : Attempt) → IsReached b st → IsRule t.text → IsCandidate st t → MayBeApplied st (application st t)
 may_apply b st t r rule c =
     let more = made st t in
-    let mapped : AreListed st.points t.points = all_map (IsFrontPoint st) (IsListed (length st.points)) (λ n. front_listed st n r.numbered.lines_listed) t.points c.on_front in
-    let count : length t.text.points + length t.text.new_points ≡ length t.points + length more = λ i. sym c.counted i + sym (made_count (mapping st t) 1 t.text.new_points) i in
+    let mapped : AreListed st.points t.points = all_map (IsFrontPoint st) (IsListed (length st.points)) (λ n. point_listed st n r.numbered.lines_listed) t.points c.on_front in
+    let count : length t.text.points + length t.text.new_points ≡ length t.points + length more = λ i. sym c.counted i + sym (as_many (mapping st t) 1 t.text.new_points) i in
     let triangles : AreTriangles (length t.points + length more) t.text.elements = subst (λ (n : ℕ). AreTriangles n t.text.elements) count rule.elements.1 in
     let els = map (map (number_of st.points more t.points)) t.text.elements in
     let different = all_different st.points more r.numbered.different c.made_different c.made_new in

@@ -249,17 +249,18 @@ module _ (g : PlanarMap) (rules : List Rule) (options : Options) (w : WholeRun) 
   each done (d ∷ ds) [] whole above rising before runs = absurd runs
   each done (d ∷ ds) (r ∷ rs) whole above rising before runs =
       let next : AllByRecursion (λ c. d < c) ds = recursion_from_All (λ c. d < c) ds rising.0 in
-      let mine : AllByRecursion (λ c. r.domain < c) ds = subst (λ (n : ℕ). AllByRecursion (λ c. n < c) ds) (sym runs.0.domain) next in
-      (record {
-        after_each = covered g rules options d r.applications h above.0.0 can runs.0.next_ones;
-        in_mesh = in_mesh done d r rs whole above.0.0 runs.0
-            (all_map (λ (q : DomainRun). AllByRecursion (λ c. q.domain < c) (d ∷ ds)) (λ (q : DomainRun). (q.domain == d) ≡ false) (λ q l. apart_number q.domain d (λ e. omega (arith, l.0, e))) done before)
-            (later_apart g rules options d ds rs next runs.1);
-      },
-      each (done ++ r ∷ []) ds rs (whole ∙ sym (append_assoc done (r ∷ []) rs)) above.1 rising.1
-      (all_append (λ (q : DomainRun). AllByRecursion (λ c. q.domain < c) ds) done (r ∷ [])
-      (all_map (λ (q : DomainRun). AllByRecursion (λ c. q.domain < c) (d ∷ ds)) (λ (q : DomainRun). AllByRecursion (λ c. q.domain < c) ds) (λ q l. l.1) done before) (mine, tt))
-      runs.1)
+      let mine : AllByRecursion (λ c. r.domain < c) ds = subst (λ (n : ℕ). AllByRecursion (λ c. n < c) ds) (sym runs.0.domain) next in (
+        record {
+          after_each = covered g rules options d r.applications h above.0.0 can runs.0.next_ones;
+          in_mesh = in_mesh done d r rs whole above.0.0 runs.0
+              (all_map (λ (q : DomainRun). AllByRecursion (λ c. q.domain < c) (d ∷ ds)) (λ (q : DomainRun). (q.domain == d) ≡ false) (λ q l. apart_number q.domain d (λ e. omega (arith, l.0, e))) done before)
+              (later_apart g rules options d ds rs next runs.1);
+        },
+        each (done ++ r ∷ []) ds rs (whole ∙ sym (append_assoc done (r ∷ []) rs)) above.1 rising.1
+            (all_append (λ (q : DomainRun). AllByRecursion (λ c. q.domain < c) ds) done (r ∷ [])
+            (all_map (λ (q : DomainRun). AllByRecursion (λ c. q.domain < c) (d ∷ ds)) (λ (q : DomainRun). AllByRecursion (λ c. q.domain < c) ds) (λ q l. l.1) done before) (mine, tt))
+            runs.1,
+      )
 
   pub all_covered : AreCovered g options w
   all_covered = each [] (domain_numbers g.segments) w.domains refl (recursion_from_All IsDomain (domain_numbers g.segments) (numbers_within _ g.segments h.joined)) (numbers_rise g.segments) tt run.domains

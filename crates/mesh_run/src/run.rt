@@ -13,8 +13,8 @@ ghost use Rattle.mesh_run.specs.Runs.{pieces_by};
 ghost use Rattle.mesh_run.specs.Steps.{IsNext, NothingApplies, IsSpent};
 
 use super::applying::{copy_of, put};
-use super::left::{points_of, rows_of};
 use super::ground::Ground;
+use super::left::{points_of, rows_of};
 use super::opening::{number_mesh, opening_of};
 use super::{Application, Applications, DomainRun, End, FrontRows, OpeningLines, Options, Stepped};
 use front_chain::Front;
@@ -91,7 +91,13 @@ impl<'a> Run<'a> {
         let geometry = ground.geometry;
         let options = ground.options;
         let segments = geometry.segments();
-        let opening = opening_of(alloc, domain, segments, ground.pieces.as_slice(), ground.mesh)?;
+        let opening = opening_of(
+            alloc,
+            domain,
+            segments,
+            ground.pieces.as_slice(),
+            ground.mesh,
+        )?;
         let points = opening.points.as_slice();
         let opened = points.len();
         let front = Front::open(alloc, points, opening.lines.as_slice())?;

@@ -33,7 +33,7 @@ pair_listed f a b s p =
 pub pair_apart : (f : FrontState) (a b : ℕ) → IsFrontState f → IsFrontPair (state_of f) (a, b) → ¬ (point_at f.points a ≡ point_at f.points b)
 pair_apart f a b s p e =
     let edge : IsEdge (pair_edge f.points (p.1.1, p.1.2)) = subst IsEdge (get_or-map (λ (line : ℕ × ℕ × ℕ). pair_edge f.points (line.1, line.2)) f.lines p.0 p.1 (pair_edge f.points (p.1.1, p.1.2)) p.2 ∙ ap (λ (line : ℕ × ℕ × ℕ). pair_edge f.points (line.1, line.2)) p.3)
-        (All-from_recursion IsEdge (front_edges f.points f.lines) s.region.edges p.0 (pair_edge f.points (p.1.1, p.1.2)) (subst (λ (n : ℕ). p.0 < n) (sym (length-map f.lines (λ (line : ℕ × ℕ × ℕ). pair_edge f.points (line.1, line.2)))) p.2)) in
+    (All-from_recursion IsEdge (front_edges f.points f.lines) s.region.edges p.0 (pair_edge f.points (p.1.1, p.1.2)) (subst (λ (n : ℕ). p.0 < n) (sym (length-map f.lines (λ (line : ℕ × ℕ × ℕ). pair_edge f.points (line.1, line.2)))) p.2)) in
     edge (ap (point_at f.points) p.4.0 ∙ e ∙ sym (ap (point_at f.points) p.4.1))
 
 -- the frame at the size at its middle

@@ -161,7 +161,8 @@ one_line lines next l m rising h k e =
     or_none None = (0, 0)
     or_none (Some z) = z
 
-same_frame : (p q : Point) (sizes : SizeField) (f g : LocalFrame) → IsFrameOf p q (size_at sizes f.middle) f → IsFrameOf p q (size_at sizes g.middle) g → f ≡ g
+-- the frame of a line at the size at its middle is one
+pub same_frame : (p q : Point) (sizes : SizeField) (f g : LocalFrame) → IsFrameOf p q (size_at sizes f.middle) f → IsFrameOf p q (size_at sizes g.middle) g → f ≡ g
 same_frame p q sizes f g h k =
     let same : f.middle ≡ g.middle = λ i. record { x = (h.middle_x ∙ sym k.middle_x) i; y = (h.middle_y ∙ sym k.middle_y) i } in
     one_frame p q (size_at sizes g.middle) f g (subst (λ (m : Point). IsFrameOf p q (size_at sizes m) f) same h) k

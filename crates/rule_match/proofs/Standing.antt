@@ -273,9 +273,9 @@ module _ (t : Tried) where
       turn_there : (n : ℕ × ℕ × ℕ) → AreNames n → is_met b (turn_tie s n) ≡ true → IsTurned n
       turn_there n k h =
           let g : turn_test (near_at near (slice_index_or b (n.0 - 1) 0)) (near_at near (slice_index_or b (n.1 - 1) 0)) (near_at near (slice_index_or b (n.2 - 1) 0)) ≡ true =
-              sym (ap (λ (o : Option ℕ). option_map_or (turn_tie s n).test (both_known o (known b ((n.1 - 1) ∷ (n.2 - 1) ∷ []))) true) (get_known b (n.0 - 1) (there n.0 k.0))
-              ∙ ap (λ (o : Option ℕ). option_map_or (turn_tie s n).test (both_known (Some (slice_index_or b (n.0 - 1) 0)) (both_known o (known b ((n.2 - 1) ∷ [])))) true) (get_known b (n.1 - 1) (there n.1 k.1))
-              ∙ ap (λ (o : Option ℕ). option_map_or (turn_tie s n).test (both_known (Some (slice_index_or b (n.0 - 1) 0)) (both_known (Some (slice_index_or b (n.1 - 1) 0)) (both_known o (Some [])))) true) (get_known b (n.2 - 1) (there n.2 k.2))) ∙ h in
+          sym (ap (λ (o : Option ℕ). option_map_or (turn_tie s n).test (both_known o (known b ((n.1 - 1) ∷ (n.2 - 1) ∷ []))) true) (get_known b (n.0 - 1) (there n.0 k.0))
+          ∙ ap (λ (o : Option ℕ). option_map_or (turn_tie s n).test (both_known (Some (slice_index_or b (n.0 - 1) 0)) (both_known o (known b ((n.2 - 1) ∷ [])))) true) (get_known b (n.1 - 1) (there n.1 k.1))
+          ∙ ap (λ (o : Option ℕ). option_map_or (turn_tie s n).test (both_known (Some (slice_index_or b (n.0 - 1) 0)) (both_known (Some (slice_index_or b (n.1 - 1) 0)) (both_known o (Some [])))) true) (get_known b (n.2 - 1) (there n.2 k.2))) ∙ h in
           carried (sym (place_there (n.0 - 1) (there n.0 k.0))) (sym (place_there (n.1 - 1) (there n.1 k.1))) (sym (place_there (n.2 - 1) (there n.2 k.2))) (lt_true _ _ g)
         where
           carried : {a1 a2 b1 b2 c1 c2 : Point} → a1 ≡ a2 → b1 ≡ b2 → c1 ≡ c2 → pos 0 <ℤ orient a1 b1 c1 → pos 0 <ℤ orient a2 b2 c2

@@ -91,11 +91,7 @@ fn add_line(
 }
 
 /// The front lines that begin in range.
-fn lines_around(
-    alloc: Global,
-    front: &Front,
-    frame: &Frame,
-) -> Result<Vec<(u64, u64)>, AllocError>
+fn lines_around(alloc: Global, front: &Front, frame: &Frame) -> Result<Vec<(u64, u64)>, AllocError>
     ensures only { IfOk result
         (λ v. All (IsStartNear (state_of front.now) frame.now) v.items) }
     ensures all { IfOk result (λ v. HasStartsNear (state_of front.now) frame.now v.items) }
@@ -164,7 +160,11 @@ fn near_points(
 }
 
 /// The surroundings of a base line.
-pub(crate) fn surroundings_of(alloc: Global, front: &Front, frame: &Frame) -> Result<Surroundings, AllocError>
+pub(crate) fn surroundings_of(
+    alloc: Global,
+    front: &Front,
+    frame: &Frame,
+) -> Result<Surroundings, AllocError>
     ensures { IfOk result
         (λ a. IsSurrounding (state_of front.now) frame.now a.near.items a.lines.items) }
 {

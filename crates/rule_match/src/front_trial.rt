@@ -19,7 +19,9 @@ ghost use Rattle.rule_match.specs.Base.{IsTrying, HasFreeZone, HasNewPoints, ele
 use super::base::Base;
 use super::few_points::FewPoints;
 use super::found::Found;
-use super::making::{all_numbers, are_different, are_new, made_points, numbered_elements, worst_badness};
+use super::making::{
+    all_numbers, are_different, are_new, made_points, numbered_elements, worst_badness,
+};
 use super::progress::Note;
 use super::trying::Trying;
 use super::walk::Trial;
@@ -80,11 +82,7 @@ fn is_memory(refusal: &GlueRefusal) -> bool
 
 impl<'a> FrontTrial<'a> {
     /// Tries a rule on a base line.
-    pub(crate) fn new(
-        base: &'a Base<'a>,
-        number: usize,
-        rule: &'a Compiled<'a>,
-    ) -> FrontTrial<'a>
+    pub(crate) fn new(base: &'a Base<'a>, number: usize, rule: &'a Compiled<'a>) -> FrontTrial<'a>
         requires live { IsLive rule.now }
         requires quality { rule.now.quality ≤ base.now.class }
         ensures { result ≡ record { base = base.now; number = number; rule = rule.now } }
@@ -182,7 +180,11 @@ impl<'a> FrontTrial<'a> {
         ensures { IfOk result (λ v. v.items ≡ elements_by self.now numbers.now placed.now) }
     {
         let all = all_numbers(alloc, numbers, self.front().points(), placed)?;
-        numbered_elements(alloc, all.as_slice(), self.rule().rule().elements.as_slice())
+        numbered_elements(
+            alloc,
+            all.as_slice(),
+            self.rule().rule().elements.as_slice(),
+        )
     }
 
     /// Whether the elements may be glued one after another.

@@ -11,5 +11,5 @@ returns-in-None g c =
 
 pub returns-in-Some : goal.returns-in-Some
 returns-in-Some g c =
-    let spot = kept_spot _ _ c.args.after c.in-Some.field-0.now.0 c.in-Some.field-0.now.1 c.self.invariant (sym c.get.ensures ∙ ap option_copied c.in-Some.is) in
+    let spot = kept_spot _ _ c.args.after c.in-Some.field-0.now c.self.invariant (sym c.get.ensures ∙ ap option_copied c.in-Some.is) in
     rw (← c.self.view_is, c.flatten.ensures) (ap option_flatten (c.next_hit.ensures spot) ∙ next_flat c.args.b.now c.args.after c.self.inside.root)

@@ -10,7 +10,7 @@ was : (g : Over) (c : After-remove-was_here g) → get c.self.inside.kept c.args
 was g c = sym c.try_remove.ensures.value ∙ c.in-Some.is
 
 gone : (g : Over) (c : After-remove-was_here g) → IsRemoved c.args.k c.self.inside.root c.remove-was_here.new.self
-gone g c = sure_removed _ _ _ _ _ _ _ c.self.invariant (was g c) c.remove-was_here.ensures.removed c.remove-was_here.ensures.absent
+gone g c = sure_removed _ _ _ _ _ _ c.self.invariant (was g c) c.remove-was_here.ensures.removed c.remove-was_here.ensures.absent
 
 pub invariant_of-self-in-Some : goal.invariant_of-self-in-Some
 invariant_of-self-in-Some g c = kept_removed _ _ _ _ _ _ c.self.invariant (gone g c) (was g c) c.try_remove.ensures.updates

@@ -25,9 +25,12 @@ admit-requires-clause-listed c = subst (All (AreListed (length (c.front.result.n
     (ready_listed c.args.self.now c.args.chosen.now c.args.placed.now c.front.ensures.trying c.requires.complete c.requires.fits c.requires.placed))
 
 pub returns-in-Ok : goal.returns-in-Ok
-returns-in-Ok c = (λ h. (ready_is c.args.self.now c.args.chosen.now c.args.placed.now c.front.ensures.trying c.requires.complete c.requires.fits c.requires.placed).0
-    (subst (λ (f : FrontState). MayFollow (entered f c.args.placed.now) (elements_by c.args.self.now (numbers_at c.args.self.now.base.near c.args.chosen.now) c.args.placed.now)) c.front.ensures.value
-    (subst (MayFollow (entered c.front.result.now c.args.placed.now)) (c.as_slice.ensures.value ∙ c.in_ok-elements.ensures ∙ ap (λ (ns : List ℕ). elements_by c.args.self.now ns c.args.placed.now) c.requires.numbers) c.in-Ok.ensures.may)), λ m. refl)
+returns-in-Ok c = (
+  λ h. (ready_is c.args.self.now c.args.chosen.now c.args.placed.now c.front.ensures.trying c.requires.complete c.requires.fits c.requires.placed).0
+      (subst (λ (f : FrontState). MayFollow (entered f c.args.placed.now) (elements_by c.args.self.now (numbers_at c.args.self.now.base.near c.args.chosen.now) c.args.placed.now)) c.front.ensures.value
+      (subst (MayFollow (entered c.front.result.now c.args.placed.now)) (c.as_slice.ensures.value ∙ c.in_ok-elements.ensures ∙ ap (λ (ns : List ℕ). elements_by c.args.self.now ns c.args.placed.now) c.requires.numbers) c.in-Ok.ensures.may)),
+  λ m. refl,
+)
 
 pub returns : goal.returns
 returns c = refused_told (MayAllBeGlued (elements (state_of c.args.self.now.base.front) (attempt_of c.args.self.now c.args.chosen.now)) (front_edges c.args.self.now.base.front.points c.args.self.now.base.front.lines)) c.args.self.now.base.front c.front.result.now c.args.placed.now c.as_slice.result.now (elements_by c.args.self.now (numbers_at c.args.self.now.base.near c.args.chosen.now) c.args.placed.now) c.in-Err.refusal
