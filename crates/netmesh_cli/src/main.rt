@@ -37,6 +37,7 @@ mod rule_file;
 pub mod rule_laws;
 mod rules;
 mod run;
+mod said;
 mod serve;
 mod settings;
 mod texts;
@@ -45,6 +46,7 @@ mod values;
 mod words_fault;
 
 pub use command::{Command, MeshOptions, Verb, read_words};
+use fault_text::Refused;
 use folder_io::{FolderDisk, SinkStd};
 pub use mesh_run::{Gate, NoGate};
 pub use outcome::{Outcome, Refusal};
@@ -90,6 +92,15 @@ fn status_of_fault(fault: &io::Error) -> u8
     }
 }
 
+/// What is said of words that can't be had.
+fn sentence_of_fault(fault: &io::Error) -> Refused<'static> {
+    if fault.kind() == ErrorKind::OutOfMemory {
+        Refused::Memory
+    } else {
+        Refused::NoText
+    }
+}
+
 /// The status that the program ends with.
 fn exit_of(outcome: &Outcome) -> ExitCode
     ensures { exit_status result ≡ status_of outcome.now }
@@ -101,7 +112,10 @@ fn main(rt: HostRuntime) -> ExitCode {
     let alloc = rt.alloc();
     let words = match words_after_name(&rt, alloc) {
         Ok(words) => words,
-        Err(fault) => return ExitCode::from(status_of_fault(&fault)),
+        Err(fault) => {
+            said::write_sentence(&rt, &sentence_of_fault(&fault));
+            return ExitCode::from(status_of_fault(&fault));
+        }
     };
     let for_folder: Result<HostRuntime, _> = rt.clone();
     let for_sink: Result<HostRuntime, _> = rt.clone();
@@ -111,5 +125,8 @@ fn main(rt: HostRuntime) -> ExitCode {
     let mut folder = FolderDisk::new(for_folder, alloc);
     let mut out = SinkStd::new(for_sink);
     let outcome = netmesh(&rt, alloc, &words, &mut folder, &mut out, &NoGate);
+    if let Outcome::Refused(refusal) = &outcome {
+        said::say(&rt, &mut folder, &words, refusal);
+    }
     exit_of(&outcome)
 }
