@@ -23,9 +23,6 @@ eq_self n = grind arith
 pub eq_less : (m n : ℕ) → m < n → nat_eq m n ≡ false
 eq_less m n h = grind arith
 
-pub eq_more : (m n : ℕ) → n < m → nat_eq m n ≡ false
-eq_more m n h = grind arith
-
 lt_true : (m n : ℕ) → m < n → nat_lt m n ≡ true
 lt_true m n h = grind arith
 

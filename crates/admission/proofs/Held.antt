@@ -1,5 +1,5 @@
 -- A box made larger holds what it held.
-use Prim.Native.Nat.{ℕ, zero, suc, ◌+◌, ◌<◌, ◌≤◌}
+use Prim.Native.Nat.{ℕ, zero, suc, ◌+◌, ◌<◌}
 use lib.ListN.{length, take, get_or}
 use mathlib.Core.Path.{◌≡◌, refl, ap, ◌∙◌}
 use mathlib.Core.List.{List, [], ◌∷◌, ◌++◌, map}
@@ -10,13 +10,6 @@ use Rattle.grid_geom.specs.declared.Point.{Point}
 use Rattle.grid_geom.specs.declared.Bounds.{Bounds}
 use Rattle.admission.specs.declared.shapes.Shape.{Shape}
 use Rattle.admission.specs.Around.{IsInBounds, IsShapeIn}
-
--- all of a list
-pub all_taken : {A : Type 0} (xs : List A) (i : ℕ) → length xs ≤ i → take i xs ≡ xs
-all_taken [] zero h = refl
-all_taken [] (suc i) h = refl
-all_taken (x ∷ xs) zero h = absurd (omega (arith, h))
-all_taken {A} (x ∷ xs) (suc i) h = ap (λ (k : List A). x ∷ k) (all_taken xs i (omega (arith, h)))
 
 -- one more of a list, mapped
 pub map_more : {A B : Type 0} (f : A → B) (xs : List A) (i : ℕ) (d : A) → i < length xs → map f (take (i + 1) xs) ≡ map f (take i xs) ++ f (get_or xs i d) ∷ []

@@ -23,9 +23,6 @@ use Rattle.admission.specs.Around.{ahead, numbers_of, drawn}
 pub stepped : (s r : ℤ) (n k : ℕ) → n < 2 ^ 64 → IsWithin (pos n -ℤ pos k) s → negsuc 0 ≤ℤ r → r ≤ℤ pos 1 → to_z w128 (of_z w128 (s +ℤ to_z w128 (of_z w128 (to_z w64 (of_z w64 r))))) ≡ s +ℤ r
 stepped s r n k h hs l g = let ft : SFits w64 r = omega (arith, ints) in let fw : SFits w128 r = omega (arith, ints) in let fs : SFits w128 (s +ℤ r) = omega (arith, ints) in simp to_z-of_z
 
-pub sum_fits : (s r : ℤ) (n k : ℕ) → n < 2 ^ 64 → IsWithin (pos n -ℤ pos k) s → negsuc 0 ≤ℤ r → r ≤ℤ pos 1 → SFits w128 (s +ℤ r)
-sum_fits s r n k h hs l g = omega (arith, ints)
-
 -- one more line
 pub more_within : (s r : ℤ) (n : ℕ) (before after : List (ℕ × ℕ × ℕ)) (line : ℕ × ℕ × ℕ) → before ≡ line ∷ after → IsWithin (pos n -ℤ pos (length before)) s → negsuc 0 ≤ℤ r → r ≤ℤ pos 1 → IsWithin (pos n -ℤ pos (length after)) (s +ℤ r)
 more_within s r n before after line e hs l g = by (length before) (length after) (ap length e) hs

@@ -84,18 +84,25 @@ pub record IsWithin (st : State) (cs : List Point) : Type 0 where
 -- the refusal says which condition is the first that fails for the element with number k and these corners
 abbrev pub SaysWhy : State → List Point → ℕ → GlueRefusal → Type 0
 SaysWhy st cs k (Turned element) = (element ≡ k) × ¬ (IsStrictlyConvex cs)
-SaysWhy st cs k (Met element line) = (element ≡ k) × IsStrictlyConvex cs × IsLeast (MeetsLine st cs) line
-SaysWhy st cs k (PointOnSide element point) = (element ≡ k) × IsApartFromLines st cs × IsLeast (HasPointOnSide st cs) point
-SaysWhy st cs k (CornerOnLine element line) = (element ≡ k) × HasFreeSides st cs × IsLeast (HasCornerOnLine st cs) line
-SaysWhy st cs k (Backwards element line) = (element ≡ k) × HasFreeCorners st cs × IsLeast (HasSideBackwards st cs) line
-SaysWhy st cs k (Outside element winding) = (element ≡ k) × IsClear st cs × (winding ≡ wind (centre cs) (edges_at st)) × (winding ≢ pos 1)
-SaysWhy st cs k (Area element left) = (element ≡ k) × IsWithin st cs × (left ≡ shoelace (edges_at st)) × (left <ℤ shoelace (sides cs))
+SaysWhy st cs k (Met element line) = (element ≡ k) × IsStrictlyConvex cs
+    × IsLeast (MeetsLine st cs) line
+SaysWhy st cs k (PointOnSide element point) = (element ≡ k) × IsApartFromLines st cs
+    × IsLeast (HasPointOnSide st cs) point
+SaysWhy st cs k (CornerOnLine element line) = (element ≡ k) × HasFreeSides st cs
+    × IsLeast (HasCornerOnLine st cs) line
+SaysWhy st cs k (Backwards element line) = (element ≡ k) × HasFreeCorners st cs
+    × IsLeast (HasSideBackwards st cs) line
+SaysWhy st cs k (Outside element winding) = (element ≡ k) × IsClear st cs
+    × (winding ≡ wind (centre cs) (edges_at st)) × (winding ≢ pos 1)
+SaysWhy st cs k (Area element left) = (element ≡ k) × IsWithin st cs
+    × (left ≡ shoelace (edges_at st)) × (left <ℤ shoelace (sides cs))
 SaysWhy st cs k Memory = ⊥
 
 -- the refusal of elements numbered from k on: that of the first one that may not be glued
 abbrev pub IsRefusal : State → List (List ℕ) → ℕ → GlueRefusal → Type 0
 IsRefusal st [] k r = ⊥
-IsRefusal st (ns ∷ elements) k r = SaysWhy st (corners_of st.points ns) k r ⊎ (MayJoin st ns × IsRefusal (glued st ns) elements (k + 1) r)
+IsRefusal st (ns ∷ elements) k r = SaysWhy st (corners_of st.points ns) k r
+    ⊎ (MayJoin st ns × IsRefusal (glued st ns) elements (k + 1) r)
 
 -- the front g is f with the new points listed and these elements glued
 pub record HasGlued (f : FrontState) (made : List Point) (elements : List (List ℕ)) (g : FrontState) : Type 0 where

@@ -46,7 +46,11 @@ shape_at points ns = record {
   i = number_at ns 0;
   j = number_at ns 1;
   k = number_at ns 2;
-  t = record { a = point_at points (number_at ns 0); b = point_at points (number_at ns 1); c = point_at points (number_at ns 2) };
+  t = record {
+    a = point_at points (number_at ns 0);
+    b = point_at points (number_at ns 1);
+    c = point_at points (number_at ns 2);
+  };
 }
 
 -- the corners are in the box
@@ -57,7 +61,13 @@ pub record IsShapeIn (box : Bounds) (shape : Shape) : Type 0 where
 
 -- a line of a state with the places of its ends
 abbrev pub drawn : List Point → ℕ × ℕ × ℕ → Line
-drawn points line = record { number = line.0; from = line.1; to = line.2; a = point_at points line.1; b = point_at points line.2 }
+drawn points line = record {
+  number = line.0;
+  from = line.1;
+  to = line.2;
+  a = point_at points line.1;
+  b = point_at points line.2;
+}
 
 -- whether the line's box meets b
 abbrev pub is_close : Bounds → List Point → ℕ × ℕ × ℕ → Bool
@@ -73,12 +83,14 @@ numbers_near b f = map (λ line. line.0) (filter (is_close b f.points) f.lines)
 
 -- the line with a number, with the places of its ends, where there is one
 abbrev pub drawn_at : FrontState → ℕ → Line
-drawn_at f n = option_map_or (λ ends. drawn f.points (n, ends.0, ends.1)) (line_at f.lines n) (drawn f.points (n, 0, 0))
+drawn_at f n = option_map_or (λ ends. drawn f.points (n, ends.0, ends.1)) (line_at f.lines n)
+    (drawn f.points (n, 0, 0))
 
 -- the lines from the one with a number on, in their order; none where no number is given
 abbrev pub from_number : List (ℕ × ℕ × ℕ) → ℕ → List (ℕ × ℕ × ℕ)
 from_number [] n = []
-from_number (line ∷ lines) n = elim (nat_eq line.0 n) [ true ↦ line ∷ lines | false ↦ from_number lines n ]
+from_number (line ∷ lines) n = elim
+    (nat_eq line.0 n) [ true ↦ line ∷ lines | false ↦ from_number lines n ]
 
 abbrev pub ahead : List (ℕ × ℕ × ℕ) → Option ℕ → List (ℕ × ℕ × ℕ)
 ahead lines None = []
@@ -105,7 +117,8 @@ turned_round n side = record { number = n; from = side.to; to = side.from; a = s
 -- a side that is one of the lines leaves, any other joins reversed
 abbrev pub glue_drawn : List Line → ℕ → Line → List Line
 glue_drawn [] next side = turned_round next side ∷ []
-glue_drawn (line ∷ lines) next side = elim (is_along side line) [ true ↦ lines | false ↦ line ∷ glue_drawn lines next side ]
+glue_drawn (line ∷ lines) next side =
+    elim (is_along side line) [ true ↦ lines | false ↦ line ∷ glue_drawn lines next side ]
 
 abbrev pub next_drawn : List Line → ℕ → Line → ℕ
 next_drawn lines next side = cond (list_any (is_along side) lines) next (next + 1)

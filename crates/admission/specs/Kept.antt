@@ -32,7 +32,8 @@ pub record IsViewOf (f : FrontState) (box : Bounds) (st : State) (view : View) :
   pub left : view.left ≡ shoelace (edges_at st)
   pub fits : SFits w128 view.left
   pub taken_on : AreOnGrid view.taken.items
-  pub winding : (q : RatPoint) → wind q (edges_of f) ≡ wind q view.taken.items +ℤ wind q (edges_at st)
+  pub winding : (q : RatPoint) → wind q (edges_of f) ≡ wind q view.taken.items
+      +ℤ wind q (edges_at st)
   pub bounded : st.next + 4 * or_zero (shoelace (edges_at st)) ≤ 2 ^ 64 - 1
 
 -- no refusal where the element with number k and these corners may be glued, else the one that says why not

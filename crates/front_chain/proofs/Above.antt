@@ -10,7 +10,7 @@ use Rattle.std.specs.Prelude.{nat_eq, nat_lt, is_some, Option, Some, None}
 use Rattle.std.specs.Option.{option_map}
 use Rattle.std.specs.List.{find, list_any}
 use Rattle.grid_geom.specs.declared.Point.{Point}
-use Rattle.front_chain.specs.declared.chain.Side.{Side}
+use Rattle.front_chain.specs.declared.side.Side.{Side}
 use Rattle.front_chain.specs.Front.{number_above}
 use Rattle.front_chain.specs.Tables.{side_at, lines_from, leaving_of, is_positive, AreTables}
 use Rattle.front_chain.proofs.Lines.{no_side, past_end}

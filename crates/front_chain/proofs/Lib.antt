@@ -6,6 +6,8 @@ pub mod Lines
 pub mod Tabled
 -- What is asked of them: the least line above a number, whether a line leaves a point, the walk, front points.
 pub mod Above
+pub mod Neighbours
+pub mod Numbered
 pub mod Walks
 pub mod Ends
 -- Gluing: one side, the sides of an element one after another.
@@ -14,5 +16,6 @@ pub mod Joins
 -- The opening, and what is true of every front.
 pub mod Openings
 pub mod Kept
--- A triangle, so that the conditions can be met.
+-- A triangle and a square with a hole, so that the conditions can be met.
 pub mod Worked
+pub mod Ring

@@ -9,8 +9,8 @@ use Rattle.std.specs.Prelude.{nat_eq, Option, Some, None}
 use Rattle.std.specs.Option.{option_map}
 use Rattle.std.specs.List.{AllByRecursion, find}
 use Rattle.state_law.specs.State.{glue_line, AreRising}
-use Rattle.front_chain.specs.declared.chain.Side.{Side}
-use Rattle.front_chain.specs.contracts.chain.SidePartialEq.TheImpl as eq
+use Rattle.front_chain.specs.declared.side.Side.{Side}
+use Rattle.front_chain.specs.contracts.side.SidePartialEq.TheImpl as eq
 use Rattle.front_chain.specs.Front.{line_at, number_between}
 use Rattle.front_chain.specs.Tables.{side_at, lines_from, leaving_of}
 
@@ -87,9 +87,6 @@ pub past_end : (made : List (Option Side)) (i : ℕ) → length made ≤ i → s
 past_end [] i h = refl
 past_end (m ∷ made) zero h = absurd (omega (arith, h))
 past_end (m ∷ made) (suc i) h = past_end made i (omega (arith, h))
-
-pub no_line_past : (made : List (Option Side)) (n : ℕ) → length made < n → line_at (lines_from 1 made) n ≡ None
-no_line_past made n h = line_numbered made n (omega arith) ∙ ap (option_map ends) (past_end made (n - 1) (omega arith))
 
 -- ---- a side that is no line
 -- no place has the side

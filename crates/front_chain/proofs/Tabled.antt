@@ -11,7 +11,7 @@ use Rattle.std.proofs.lemmas.List.{get_or-set_same, get_or-set_other, length-set
 use Rattle.std.specs.Map.{lookup}
 use Rattle.grid_geom.specs.declared.Point.{Point}
 use Rattle.state_law.specs.State.{IsListed, glue_line}
-use Rattle.front_chain.specs.declared.chain.Side.{Side}
+use Rattle.front_chain.specs.declared.side.Side.{Side}
 use Rattle.front_chain.specs.Front.{number_between}
 use Rattle.front_chain.specs.Tables.{side_at, lines_from, leaving_of, AreTables}
 use Rattle.front_chain.proofs.Lines.{same_side, same_self, same_sound, eq_self, IsNowhere, IsFirstAt, number_absent, number_present, lines_push, leaving_more, leaving_less, glue_present}
@@ -218,17 +218,6 @@ tables_left {points} {leaving} {made} {number} {after} h s n there put = record 
         apart t m e l k i = clash (sym (subst (λ (u : Side). same_side s u ≡ true) (some_side s t (sym (h.kept s n there).1 ∙ ap (side_at made) (sym i) ∙ k)) (same_self s)) ∙ e)
 
 -- ---- for the bodies that put a line in and take one off
-pub within : (made : List (Option Side)) (i : ℕ) (s : Side) → side_at made i ≡ Some s → i < length made
-within [] i s e = absurd (cc)
-within (m ∷ made) zero s e = positive (length made)
-  where
-    positive : (n : ℕ) → 0 < suc n
-    positive n = omega arith
-within (m ∷ made) (suc i) s e = more i (length made) (within made i s e)
-  where
-    more : (i n : ℕ) → i < n → suc i < suc n
-    more i n h = omega arith
-
 -- no more lines leave a point than the table has places
 pub few_leave : (n p : ℕ) (made : List (Option Side)) → leaving_of (lines_from n made) p ≤ length made
 few_leave n p [] = omega arith
@@ -279,6 +268,10 @@ module _ {points : List Point} {leaving : List ℕ} {made : List (Option Side)} 
   pub left_at : {after : Side → Option ℕ} (s : Side) (n k : ℕ) → k ≡ get_or leaving (s.from - 1) 0 → number s ≡ Some n → ((q : Side) → after q ≡ cond (same_side s q) None (number q)) →
       AreTables points (set leaving (s.from - 1) (k - 1)) (set made (n - 1) None) after
   left_at {after} s n k e there put = subst (λ (m : ℕ). AreTables points (set leaving (s.from - 1) (m - 1)) (set made (n - 1) None) after) (sym e) (tables_left h s n there put)
+
+-- a line that joins has the next number
+pub number_is : (made now : List (Option Side)) (t : Side) (n : ℕ) → now ≡ made ++ Some t ∷ [] → n ≡ length now → n ≡ length made + 1
+number_is made now t n e f = f ∙ ap length e ∙ length-append made (Some t ∷ [])
 
 -- ---- a point more
 -- no line leaves a point that no line of the table names

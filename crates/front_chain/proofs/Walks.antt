@@ -16,7 +16,7 @@ use Rattle.grid_geom.specs.declared.Point.{Point}
 use Rattle.grid_geom.specs.declared.Bounds.{Bounds}
 use Rattle.state_law.specs.State.{AreRising, IsListed, pair_edge, point_at}
 use Rattle.wind_law.specs.Chains.{edge}
-use Rattle.front_chain.specs.declared.chain.Side.{Side}
+use Rattle.front_chain.specs.declared.side.Side.{Side}
 use Rattle.front_chain.specs.declared.front.Near.{Near}
 use Rattle.front_chain.specs.Front.{FrontState, line_at, is_near, does_meet, IsWalk}
 use Rattle.front_chain.specs.Tables.{side_at, lines_from, AreTables}

@@ -38,7 +38,8 @@ line_at lines n = option_map (λ line. (line.1, line.2)) (find (λ line. nat_eq 
 
 -- the number of the line with these ends
 abbrev pub number_between : List (ℕ × ℕ × ℕ) → ℕ → ℕ → Option ℕ
-number_between lines a b = option_map (λ line. line.0) (find (λ line. nat_eq line.1 a && nat_eq line.2 b) lines)
+number_between lines a b = option_map (λ line. line.0)
+    (find (λ line. nat_eq line.1 a && nat_eq line.2 b) lines)
 
 -- the first line in order of making whose number is above: since numbers rise, the least
 abbrev pub number_above : List (ℕ × ℕ × ℕ) → ℕ → Option ℕ
@@ -63,7 +64,8 @@ state_of f = record { points = f.points; front = f.lines; next = f.next; element
 -- ---- near lines
 -- the span from u to w is not all above `greatest`, nor all below `least`
 abbrev pub does_reach : ℤ → ℤ → ℤ → ℤ → Bool
-does_reach least greatest u w = (le_z u greatest || le_z w greatest) && (le_z least u || le_z least w)
+does_reach least greatest u w = (le_z u greatest || le_z w greatest)
+    && (le_z least u || le_z least w)
 
 -- the closed box of the edge's ends and the closed box b have a point in common
 abbrev pub does_meet : Bounds → Edge → Bool
@@ -71,7 +73,8 @@ does_meet b e = does_reach b.lo.x b.hi.x e.a.x e.b.x && does_reach b.lo.y b.hi.y
 
 -- whether the number is that of a front line whose box meets b
 abbrev pub is_near : FrontState → Bounds → ℕ → Bool
-is_near f b n = option_map_or (λ ends. does_meet b (pair_edge f.points ends)) (line_at f.lines n) false
+is_near f b n = option_map_or (λ ends. does_meet b (pair_edge f.points ends))
+    (line_at f.lines n) false
 
 -- the first line of the walk whose box meets b, and the first after a line
 abbrev pub first_in_walk : FrontState → Bounds → Option ℕ
@@ -93,7 +96,8 @@ pub record IsWalk (walk : List ℕ) (lines : List (ℕ × ℕ × ℕ)) : Type 0 
 
 -- the place is a front point, or settled, or its number is waiting
 abbrev pub IsPlaced : FrontState → ℕ → Type 0
-IsPlaced f n = (IsFrontPoint (edges_of f) (point_at f.points n) ⊎ IsSettled (edges_of f) (point_at f.points n)) ⊎ Contains f.waiting n
+IsPlaced f n = (IsFrontPoint (edges_of f) (point_at f.points n)
+    ⊎ IsSettled (edges_of f) (point_at f.points n)) ⊎ Contains f.waiting n
 
 pub record IsFrontState (f : FrontState) : Type 0 where
   -- points are different and on the grid, lines join listed points
@@ -118,7 +122,12 @@ numbered_from n (ends ∷ rest) = (n, ends.0, ends.1) ∷ numbered_from (n + 1) 
 
 -- what the opening points and lines must be
 pub record IsOpening (points : List Point) (lines : List (ℕ × ℕ)) : Type 0 where
-  pub numbered : IsNumbered (record { points = points; front = numbered_from 1 lines; next = 1 + length lines; elements = [] })
+  pub numbered : IsNumbered (record {
+    points = points;
+    front = numbered_from 1 lines;
+    next = 1 + length lines;
+    elements = [];
+  })
   pub on_grid : All IsOnGrid points
   pub region : IsRegion (map (pair_edge points) lines)
   pub bounded : length lines + 4 * or_zero (shoelace (map (pair_edge points) lines)) ≤ 2 ^ 64 - 2

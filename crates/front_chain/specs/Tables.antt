@@ -2,7 +2,7 @@
 use Rattle.std.specs.Prelude.{◌≡◌, ℕ, zero, suc, Bool, false, nat_lt, ◌+◌, ◌-◌, ◌<◌, ◌≤◌, nat_eq, cond, List, [], ◌∷◌, length, slice_index, slice_index_or, Option, Some, None}
 use Rattle.grid_geom.specs.declared.Point.{Point}
 use Rattle.state_law.specs.State.{IsListed}
-use Rattle.front_chain.specs.declared.chain.Side.{Side}
+use Rattle.front_chain.specs.declared.side.Side.{Side}
 
 -- the side at a place of the table by line numbers: nothing where that line has left, and past the end
 abbrev pub side_at : List (Option Side) → ℕ → Option Side
@@ -26,8 +26,10 @@ is_positive leaving (suc i) = nat_lt 0 (slice_index leaving i)
 
 -- the tables agree: `number` gives the number of the line with these ends
 pub record AreTables (points : List Point) (leaving : List ℕ) (made : List (Option Side)) (number : Side → Option ℕ) : Type 0 where
-  pub joined : (i : ℕ) (s : Side) → side_at made i ≡ Some s → IsListed (length points) s.from × IsListed (length points) s.to
+  pub joined : (i : ℕ) (s : Side) → side_at made i ≡ Some s → IsListed (length points) s.from
+      × IsListed (length points) s.to
   pub found : (i : ℕ) (s : Side) → side_at made i ≡ Some s → number s ≡ Some (i + 1)
   pub kept : (s : Side) (n : ℕ) → number s ≡ Some n → (1 ≤ n) × (side_at made (n - 1) ≡ Some s)
   pub as_many : length leaving ≡ length points
-  pub counted : (i : ℕ) → i < length points → slice_index leaving i ≡ leaving_of (lines_from 1 made) (i + 1)
+  pub counted : (i : ℕ) → i < length points
+      → slice_index leaving i ≡ leaving_of (lines_from 1 made) (i + 1)

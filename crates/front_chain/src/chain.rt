@@ -6,17 +6,12 @@ ghost use Rattle.state_law.specs.State.{IsListed, glue_line, next_after, point_a
 ghost use Rattle.front_chain.specs.Front.{FrontState, IsWalk, line_at, number_between, number_above, number_of, is_near, does_meet, first_in_walk, next_in_walk, still_waiting};
 ghost use Rattle.front_chain.specs.Tables.{lines_from, is_positive};
 
+use crate::order::Order;
+use crate::side::Side;
 use grid_geom::{Bounds, Point};
 use indexmap::{IndexMap, IndexSet};
 use std::alloc::{AllocError as OutOfMemory, Global};
 use std::marker::Model;
-
-/// The ends of a line, by their numbers.
-#[derive(Clone, Copy, Debug, PartialEq, Eq, Hash)]
-pub struct Side {
-    pub from: u64,
-    pub to: u64,
-}
 
 /// Points, numbered from 1, and lines between them, numbered in order of making.
 #[derive(Drop)]
@@ -25,8 +20,8 @@ pub struct Chain {
     places: IndexSet<Point>,
     // how many lines leave each point
     leaving: Vec<u64>,
-    // the ends of each line, in the order of their numbers, and nothing where the line has left
-    made: Vec<Option<Side>>,
+    // the lines by their numbers, in order of making
+    order: Order,
     // the number of each line, by its ends; the order of the entries is the walk
     sides: IndexMap<Side, u64>,
     // the numbers of the points that no line and no element has had so far
@@ -38,7 +33,7 @@ impl Model for Chain {
     ghost use Rattle.std.specs.Vec.{vec_len, vec_capacity};
     ghost use Rattle.indexmap.specs.IndexMap.{get, values, spare as room_of_map, IsUnique};
     ghost use Rattle.indexmap.specs.IndexSet.{spare as room_of_set};
-    ghost use Rattle.front_chain.specs.contracts.chain.SidePartialEq.TheImpl.{ghosts as side};
+    ghost use Rattle.front_chain.specs.contracts.side.SidePartialEq.TheImpl.{ghosts as side};
     ghost use Rattle.front_chain.specs.Front.{FrontState};
     ghost use Rattle.front_chain.specs.Tables.{lines_from, AreTables};
 
@@ -46,49 +41,19 @@ impl Model for Chain {
 
     ghost view = { λ c. record {
       points = c.places.keys;
-      lines = lines_from 1 c.made.items;
-      next = 1 + length c.made.items;
+      lines = lines_from 1 c.order.made;
+      next = 1 + length c.order.made;
       walk = values c.sides;
       waiting = c.waiting.items;
       spare_points = min (room_of_set c.places)
-          (min (vec_capacity c.leaving - vec_len c.leaving) (vec_capacity c.waiting - vec_len c.waiting));
-      spare_lines = min (room_of_map c.sides) (vec_capacity c.made - vec_len c.made);
+          (min (vec_capacity c.leaving - vec_len c.leaving)
+          (vec_capacity c.waiting - vec_len c.waiting));
+      spare_lines = min (room_of_map c.sides) c.order.spare;
     } };
 
-    ghost invariant = { λ c. AreTables c.places.keys c.leaving.items c.made.items (λ s. get side.eq c.sides s) ×
+    ghost invariant = { λ c. AreTables c.places.keys c.leaving.items c.order.made
+        (λ s. get side.eq c.sides s) ×
         IsUnique side.eq c.sides };
-}
-
-/// The ends of the line with this number in a table by line numbers.
-#[tactic(auto, using(crate::proofs::Lines::no_line_zero, crate::proofs::Lines::no_line_past, crate::proofs::Lines::line_numbered))]
-fn ends_in(made: &[Option<Side>], n: u64) -> Option<(u64, u64)>
-    ensures { result ≡ line_at (lines_from 1 made.now) n }
-{
-    if n == 0 {
-        return None;
-    }
-    if n > made.len() as u64 {
-        return None;
-    }
-    match made[n as usize - 1] {
-        Some(side) => Some((side.from, side.to)),
-        None => None,
-    }
-}
-
-/// The least number of a line above this number in a table by line numbers.
-fn next_in(made: &[Option<Side>], after: u64) -> Option<u64>
-    ensures { result ≡ number_above (lines_from 1 made.now) after }
-{
-    if after >= made.len() as u64 {
-        return None;
-    }
-    for place in after as usize..made.len() {
-        if made[place].is_some() {
-            return Some(place as u64 + 1);
-        }
-    }
-    None
 }
 
 /// Whether a line leaves the point with this number, by how many leave each point.
@@ -121,7 +86,7 @@ impl Chain {
         Chain {
             places: IndexSet::new(alloc),
             leaving: Vec::new(alloc),
-            made: Vec::new(alloc),
+            order: Order::new(alloc),
             sides: IndexMap::new(alloc),
             waiting: Vec::new(alloc),
         }
@@ -138,14 +103,14 @@ impl Chain {
     pub fn next_number(&self) -> u64
         ensures { result ≡ self.now.next }
     {
-        1 + self.made.len() as u64
+        1 + self.order.made()
     }
 
     /// The ends of the line with this number, if it is there.
     pub fn line(&self, n: u64) -> Option<(u64, u64)>
         ensures { result ≡ line_at self.now.lines n }
     {
-        ends_in(&self.made, n)
+        self.order.line(n)
     }
 
     /// The number of the line with these ends, if it is there.
@@ -167,7 +132,7 @@ impl Chain {
         ensures spare_lines { self.old.spare_lines ≤ self.new.spare_lines }
     {
         self.sides.swap_remove(&side);
-        self.made[number as usize - 1] = None;
+        self.order.take_off(number);
         self.leaving[side.from as usize - 1] -= 1;
     }
 
@@ -185,8 +150,8 @@ impl Chain {
         ensures spare_points { self.new.spare_points ≡ self.old.spare_points }
         ensures spare_lines { self.old.spare_lines ≤ self.new.spare_lines + 1 }
     {
-        self.made.push_reserved(Some(side));
-        let number = self.made.len() as u64;
+        self.order.push(side);
+        let number = self.order.made();
         self.sides.insert(side, number).unwrap();
         self.leaving[side.from as usize - 1] += 1;
     }
@@ -250,7 +215,7 @@ impl Chain {
         self.places.reserve(points)?;
         self.leaving.reserve(points)?;
         self.waiting.reserve(points)?;
-        self.made.reserve(lines)?;
+        self.order.reserve(lines)?;
         self.sides.reserve(lines)
     }
 
@@ -274,7 +239,7 @@ impl Chain {
     pub fn next_line(&self, after: u64) -> Option<u64>
         ensures { result ≡ number_above self.now.lines after }
     {
-        next_in(&self.made, after)
+        self.order.next_line(after)
     }
 
     /// Whether a line leaves the point with this number.

@@ -7,7 +7,8 @@ ghost use Rattle.grid_geom.specs.Polygon.{sides};
 ghost use Rattle.state_law.specs.State.{IsListed, corners_of, glue_lines, next_after_all, number_way, number_sides};
 ghost use Rattle.front_chain.specs.Gluable.{CanJoin};
 
-use crate::chain::{Chain, Side};
+use crate::chain::Chain;
+use crate::side::Side;
 use grid_geom::{Point, double_area};
 
 /// Glues the sides from `from` by the rest of the corners and on to `first`.

@@ -14,14 +14,18 @@
 //! 5. The walk has the number of each line once. Its order is the front's own choice.
 //!
 //! `open`, `reserve` alone take memory. Every look-up is one look in a table; gluing costs what the
-//! element has, however long the front is. The walks go from line to line until a tree of boxes stands
-//! behind the same two calls.
+//! element has, and the waiting points, however long the front is. Lines are linked in order of making,
+//! so what is kept of them is as long as the front, and no walk meets a line that has left. `next_line`
+//! is one look where it is given the number of a line, and else a walk from the first line on. The walks
+//! over near lines go from line to line until a tree of boxes stands behind the same two calls.
 #![tactic(auto)]
 
 mod chain;
 mod front;
 mod gluing;
 mod opening;
+mod order;
+mod side;
 
 pub use front::{Front, Near};
 pub use std::alloc::AllocError as OutOfMemory;

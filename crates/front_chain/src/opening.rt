@@ -9,7 +9,8 @@ ghost use Rattle.state_law.specs.Free.{AreAlike, AreFreeOf};
 ghost use Rattle.state_law.specs.State.{pair_edge, IsListed};
 ghost use Rattle.front_chain.specs.Front.{numbered_from, numbers_to};
 
-use crate::chain::{Chain, Side};
+use crate::chain::Chain;
+use crate::side::Side;
 use grid_geom::{Point, orient};
 
 const ORIGIN: Point = Point { x: 0, y: 0 };

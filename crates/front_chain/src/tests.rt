@@ -1,7 +1,8 @@
-// Values from outside, worked by hand on the triangle (0, 0), (640000, 0), (0, 640000) with its three lines.
+// Values from outside, worked by hand on the triangle (0, 0), (640000, 0), (0, 640000) with its three lines, and on a square of three units of 64000 with a hole of one unit in its middle.
 ghost use Rattle.std.specs.Prelude.{◌≡◌, [], ◌∷◌, IfOk};
 ghost use Rattle.state_law.specs.Worked.{worked};
-ghost use Rattle.front_chain.specs.Worked.{triangle_points};
+ghost use Rattle.front_chain.specs.Front.{numbered_from};
+ghost use Rattle.front_chain.specs.Worked.{triangle_points, ring_points, ring_lines};
 
 use super::*;
 use grid_geom::{Bounds, Element, Point};
@@ -70,5 +71,62 @@ fn a_walk_meets_the_near_lines(rt: HostRuntime) -> Result<(), Fail> {
         }
     }
     assert!(rt; met == 12 || met == 21);
+    Ok(())
+}
+
+/// The front of the square with a hole.
+fn ring(alloc: Global) -> Result<Front, OutOfMemory>
+    ensures points { IfOk result (λ f. f.points ≡ ring_points) }
+    ensures lines { IfOk result (λ f. f.lines ≡ numbered_from 1 ring_lines) }
+{
+    Front::open(
+        alloc,
+        &[
+            Point { x: 0, y: 0 },
+            Point { x: 192_000, y: 0 },
+            Point {
+                x: 192_000,
+                y: 192_000,
+            },
+            Point { x: 0, y: 192_000 },
+            Point {
+                x: 64_000,
+                y: 64_000,
+            },
+            Point {
+                x: 128_000,
+                y: 64_000,
+            },
+            Point {
+                x: 128_000,
+                y: 128_000,
+            },
+            Point {
+                x: 64_000,
+                y: 128_000,
+            },
+        ],
+        &[
+            (1, 2),
+            (2, 3),
+            (3, 4),
+            (4, 1),
+            (6, 5),
+            (7, 6),
+            (8, 7),
+            (5, 8),
+        ],
+    )
+}
+
+#[test]
+fn a_hole_takes_from_the_area(rt: HostRuntime) -> Result<(), Fail> {
+    let front = ring(rt.alloc())?;
+    assert_eq!(rt; front.lines(), 8);
+    assert_eq!(rt; front.area(), 65_536_000_000);
+    assert_eq!(rt; front.line_between(6, 5), Some(5));
+    assert_eq!(rt; front.line_between(5, 6), None);
+    assert_eq!(rt; front.next_line(8), None);
+    assert!(rt; front.is_front_point(7));
     Ok(())
 }

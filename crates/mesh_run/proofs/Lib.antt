@@ -7,3 +7,32 @@ pub mod Named
 pub mod Ordered
 -- Openings whose segments are cut.
 pub mod CutFronts
+pub mod Begun
+-- Applications: new numbers, steps.
+pub mod Numbers
+pub mod Steps
+-- Sums over a run.
+pub mod Areas
+pub mod Covered
+-- What a run by rules names.
+pub mod NamedRuns
+-- That a run is the only one.
+pub mod OneRun
+-- The mesh of a run.
+pub mod Written
+-- How runs end.
+pub mod Ended
+-- Runs by rules. SameState: what applies depends on points and front alone.
+pub mod SameState
+-- LinesUp: front lines by rising numbers.
+pub mod LinesUp
+-- Searched: what a search by classes and lines has found.
+pub mod Searched
+-- Put: an application put on a front.
+pub mod Put
+-- GoesOn: a run goes on by one application.
+pub mod GoesOn
+-- OpenedRun: a run before its first application.
+pub mod OpenedRun
+-- Zipped: lists in step with each other.
+pub mod Zipped

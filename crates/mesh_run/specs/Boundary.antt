@@ -10,7 +10,8 @@ use Rattle.size_field.specs.declared.pieces.Piece.{Piece}
 abbrev pub whole_pieces_from : ℕ → List Point → List Segment → List Piece
 whole_pieces_from n points [] = []
 whole_pieces_from n points (s ∷ ss) =
-    record { segment = n; a = point_at points s.p; b = point_at points s.q } ∷ whole_pieces_from (n + 1) points ss
+    record { segment = n; a = point_at points s.p; b = point_at points s.q }
+    ∷ whole_pieces_from (n + 1) points ss
 
 -- one piece for each segment, in order, from its first point to its last
 abbrev pub whole_pieces : List Point → List Segment → List Piece

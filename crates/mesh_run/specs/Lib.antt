@@ -6,3 +6,11 @@ pub mod Numbering
 pub mod Opening
 pub mod Whole
 pub mod Mesh
+-- Steps: which application comes next, and the states one after another. Runs: the run of a domain and of all domains by rules.
+-- Sum: what is true after each application.
+pub mod Steps
+pub mod Runs
+-- Reached: what a run keeps of its state. RunState: a run of a domain while it goes on.
+pub mod Reached
+pub mod RunState
+pub mod Sum

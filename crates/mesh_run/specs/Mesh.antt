@@ -40,16 +40,19 @@ mesh_number points before r n =
 
 -- an element of a domain's run, its corners by their mesh numbers
 abbrev pub mesh_element : List Point → ℕ → DomainRun → List ℕ → MeshElement
-mesh_element points before r corners = record { domain = r.domain; corners = map (mesh_number points before r) corners }
+mesh_element points before r corners =
+    record { domain = r.domain; corners = map (mesh_number points before r) corners }
 
 -- the elements of a domain's run in order of making
 abbrev pub elements_of : List Point → ℕ → DomainRun → List MeshElement
-elements_of points before r = flat_map (λ a. map (mesh_element points before r) a.elements) r.applications
+elements_of points before r = flat_map
+    (λ a. map (mesh_element points before r) a.elements) r.applications
 
 -- the elements domain by domain, where `before` mesh points come before the first domain's new ones
 abbrev pub elements_from : List Point → ℕ → List DomainRun → List MeshElement
 elements_from points before [] = []
-elements_from points before (r ∷ rs) = elements_of points before r ++ elements_from points (before + length (new_points r)) rs
+elements_from points before (r ∷ rs) =
+    elements_of points before r ++ elements_from points (before + length (new_points r)) rs
 
 -- points, the pieces as edge rows, and the elements domain by domain
 abbrev pub mesh_of_run : WholeRun → List Segment → Mesh

@@ -17,7 +17,8 @@ mesh_points pieces = by_first_occurrence (ends_of (map piece_edge pieces))
 
 -- those mesh points that are ends of the domain's boundary, by rising mesh number
 abbrev pub domain_points : ℕ → List Segment → List Piece → List Point
-domain_points d segments pieces = filter (is_among (ends_of (piece_boundary d segments pieces))) (mesh_points pieces)
+domain_points d segments pieces =
+    filter (is_among (ends_of (piece_boundary d segments pieces))) (mesh_points pieces)
 
 -- edges between points, by the numbers of their ends
 abbrev pub numbered : List Point → List Edge → List (ℕ × ℕ)
@@ -25,7 +26,8 @@ numbered points edges = map (λ e. (number_in points e.a, number_in points e.b))
 
 -- the domain's pieces in their order, with the domain on the left, by the numbers of their ends among the domain's points
 abbrev pub opening_lines : ℕ → List Segment → List Piece → List (ℕ × ℕ)
-opening_lines d segments pieces = numbered (domain_points d segments pieces) (piece_boundary d segments pieces)
+opening_lines d segments pieces =
+    numbered (domain_points d segments pieces) (piece_boundary d segments pieces)
 
 -- front lines with the numbers n, n + 1, ..
 abbrev pub front_from : ℕ → List (ℕ × ℕ) → List (ℕ × ℕ × ℕ)
@@ -51,7 +53,10 @@ unmeshed_run d segments pieces = record {
 
 -- the front lines of a run, as edges between its points
 abbrev pub front_edges : DomainRun → List Edge
-front_edges r = map (λ line. record { a = point_at r.points line.1; b = point_at r.points line.2 }) r.front
+front_edges r = map (λ line. record {
+  a = point_at r.points line.1;
+  b = point_at r.points line.2;
+}) r.front
 
 -- the front line joins points with numbers from 1 to n
 pub record FrontJoins (n : ℕ) (line : ℕ × ℕ × ℕ) : Type 0 where

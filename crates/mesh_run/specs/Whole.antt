@@ -43,4 +43,5 @@ unmeshed_whole shift options pieces segments = record {
 
 -- the whole run of an accepted geometry where no rule applies: its segments are cut by the options' sizes and its own
 abbrev pub unmeshed_geometry : PlanarMap → Options → WholeRun
-unmeshed_geometry g options = unmeshed_whole g.shift options (pieces_of g options.greatest options.grading) g.segments
+unmeshed_geometry g options = unmeshed_whole g.shift options
+    (pieces_of g options.greatest options.grading) g.segments

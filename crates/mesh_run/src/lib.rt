@@ -6,28 +6,42 @@
 //!    its new points in order of making.
 //! 4. A domain's opening lines are its pieces in their order, each with the domain on its left: as
 //!    edges they are the domain's boundary.
-//! 5. What a run without rules and its mesh are is given exactly; the definitions stand in specs/.
+//! 5. A `Run` is a domain's state after some applications, each of which was the next one: that of the
+//!    least class, then of the least line, then of the least candidate on it. One more takes at least 1
+//!    from the front's doubled area, so a run ends.
+//! 6. It ends done, where no front is left; else stuck, where nothing applies; else stopped, where as
+//!    many applications were made as the domain may make.
+//! 7. What a run, a whole run and its mesh are is given exactly; the definitions stand in specs/.
 #![tactic(auto)]
 
+mod all;
 mod application;
+mod applying;
 mod boundary;
 mod domain_run;
 mod gate;
+mod ground;
 pub mod laws;
+mod left;
 mod lists;
 mod mesh;
 mod numbering;
 mod opening;
+mod run;
+mod stepped;
 mod whole;
 
+pub use all::run_all;
 pub use application::{Application, Applications};
 pub use boundary::uncut;
 pub use domain_run::{DomainRun, DomainRuns};
 pub use gate::{Gate, NoGate};
 pub use lists::{Elements, FrontRows, OpeningLines, PointNumbers};
 pub use mesh::mesh_of;
+pub use run::Run;
 pub use size_field::{Piece, Pieces};
 pub use std::alloc::AllocError as OutOfMemory;
+pub use stepped::Stepped;
 pub use whole::{open_all, open_geometry};
 
 /// The options of a run.

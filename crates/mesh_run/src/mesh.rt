@@ -85,7 +85,8 @@ fn push_application(
 ) -> Result<(), OutOfMemory>
     requires corners { All (All (IsNumberTo (length run.now.points))) made.now }
     requires room { before + (length run.now.points - run.now.opened) < 2 ^ 64 }
-    ensures { OnOk result (elements.new.items ≡ elements.old.items ++ map (mesh_element mesh.now before run.now) made.now) }
+    ensures { OnOk result (elements.new.items ≡ elements.old.items
+        ++ map (mesh_element mesh.now before run.now) made.now) }
 {
     for element in made {
         let corners = mesh_corners(alloc, mesh, before, run, element.as_slice())?;
@@ -107,7 +108,8 @@ fn push_elements(
 ) -> Result<(), OutOfMemory>
     requires names { NamesItsPoints run.now }
     requires room { before + (length run.now.points - run.now.opened) < 2 ^ 64 }
-    ensures { OnOk result (elements.new.items ≡ elements.old.items ++ elements_of mesh.now before run.now) }
+    ensures { OnOk result (elements.new.items ≡ elements.old.items
+        ++ elements_of mesh.now before run.now) }
 {
     for application in run.applications.as_slice() {
         push_application(
@@ -139,8 +141,11 @@ fn push_runs(
     runs: &[DomainRun],
 ) -> Result<(), OutOfMemory>
     requires { All NamesItsPoints runs.now }
-    ensures points { OnOk result (points.new.items ≡ points.old.items ++ flat_map new_points runs.now) }
-    ensures elements { OnOk result (elements.new.items ≡ elements.old.items ++ elements_from mesh.now (length points.old.items) runs.now) }
+    ensures points { OnOk result
+        (points.new.items ≡ points.old.items ++ flat_map new_points runs.now) }
+    ensures elements { OnOk result
+        (elements.new.items ≡ elements.old.items
+        ++ elements_from mesh.now (length points.old.items) runs.now) }
 {
     for run in runs {
         let before = points.len();

@@ -2,7 +2,7 @@
 ghost use Rattle.std.specs.Prelude.{◌≡◌, length, filter, IfOk, All};
 ghost use Rattle.mesh_run.specs.Boundary.{IsPieceOf};
 ghost use Rattle.mesh_run.specs.Numbering.{is_among};
-ghost use Rattle.mesh_run.specs.Opening.{end_of_front, front_from, mesh_points, numbered, unmeshed_run};
+ghost use Rattle.mesh_run.specs.Opening.{domain_points, end_of_front, front_from, mesh_points, numbered, opening_lines, unmeshed_run};
 
 use super::boundary::{boundary_of, piece_edges};
 use super::numbering::{Numbering, numbering_of, numbering_of_ends};
@@ -70,6 +70,39 @@ fn end_of(front: &[(u64, u64, u64)]) -> End
     }
 }
 
+/// The points and the lines with which a domain's run begins.
+#[derive(Drop)]
+pub struct Opening {
+    pub points: Points,
+    pub lines: OpeningLines,
+}
+
+/// The points and the lines with which the domain's run begins. `mesh` are the mesh points.
+pub fn opening_of(
+    alloc: Global,
+    domain: u32,
+    segments: &[Segment],
+    pieces: &[Piece],
+    mesh: &[Point],
+) -> Result<Opening, OutOfMemory>
+    requires pieces { All (IsPieceOf segments.now) pieces.now }
+    requires mesh { mesh.now ≡ mesh_points pieces.now }
+    ensures points { IfOk result
+        (λ opening. opening.points ≡ domain_points domain segments.now pieces.now) }
+    ensures lines { IfOk result
+        (λ opening. opening.lines ≡ opening_lines domain segments.now pieces.now) }
+{
+    let boundary = boundary_of(alloc, domain, segments, pieces)?;
+    let ends = numbering_of_ends(alloc, &boundary)?;
+    let points = points_among(alloc, mesh, &ends)?;
+    let numbering = numbering_of(alloc, &points)?;
+    let lines = number_edges(alloc, &numbering, &boundary)?;
+    Ok(Opening {
+        points: Points::from_vec(points),
+        lines: OpeningLines::from_vec(lines),
+    })
+}
+
 /// The run of the domain to which no rule applies: its opening state. `mesh` are the mesh points.
 pub fn open_domain(
     alloc: Global,
@@ -82,18 +115,15 @@ pub fn open_domain(
     requires mesh { mesh.now ≡ mesh_points pieces.now }
     ensures { IfOk result (λ run. run ≡ unmeshed_run domain segments.now pieces.now) }
 {
-    let boundary = boundary_of(alloc, domain, segments, pieces)?;
-    let ends = numbering_of_ends(alloc, &boundary)?;
-    let points = points_among(alloc, mesh, &ends)?;
-    let numbering = numbering_of(alloc, &points)?;
-    let lines = number_edges(alloc, &numbering, &boundary)?;
-    let front = front_of(alloc, &lines)?;
+    let opening = opening_of(alloc, domain, segments, pieces, mesh)?;
+    let opened = opening.points.as_slice().len();
+    let front = front_of(alloc, opening.lines.as_slice())?;
     let end = end_of(&front);
     Ok(DomainRun {
         domain,
-        opened: points.len(),
-        points: Points::from_vec(points),
-        lines: OpeningLines::from_vec(lines),
+        opened,
+        points: opening.points,
+        lines: opening.lines,
         applications: Applications::from_vec(Vec::new(alloc)),
         front: FrontRows::from_vec(front),
         end,

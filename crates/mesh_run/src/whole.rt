@@ -27,7 +27,7 @@ fn has_stuck(runs: &[DomainRun]) -> bool
 }
 
 /// Stopped if a domain's end is, else Stuck if one is, else Done.
-fn whole_end(runs: &[DomainRun]) -> End
+pub fn whole_end(runs: &[DomainRun]) -> End
     ensures { result ≡ end_of_all runs.now }
 {
     if has_stopped(runs) {

@@ -1,6 +1,6 @@
 -- What the top call promises of words, from what they ask for.
 use Rattle.std.proofs.Common.{◌≡◌, ℕ, List, sym, subst, refl, ap, ◌∙◌, inl, inr}
-use Rattle.std.specs.Prelude.{Option, Some}
+use Rattle.std.specs.Prelude.{Option}
 use Rattle.folder_io.specs.Causes.{Told, ToldBoth}
 use Rattle.folder_io.specs.Names.{Files}
 use Rattle.folder_io.specs.States.{FolderState, SinkState}
@@ -11,11 +11,11 @@ use Rattle.netmesh_cli.specs.declared.outcome.Refusal.{Refusal}
 use Rattle.netmesh_cli.specs.declared.outcome.Refusal.TheVariants.{Words, In2d, Geometry, Rules, Folder, Out, Memory, NotYet}
 use Rattle.netmesh_cli.specs.Commands.{Task, MeshTask, MeshOf, GeomOf, RulesOf, CheckOf, ViewOf, ReplayOf, GenOf, IsCommand, IsFault}
 use Rattle.netmesh_cli.specs.Words.{IsUnbuilt, AskForUnbuilt, WordsRefused}
-use Rattle.netmesh_cli.specs.Causes.{IsUntaken, HasFailed}
+use Rattle.netmesh_cli.specs.Causes.{IsUntaken}
 use Rattle.netmesh_cli.specs.Taking.{TakesRefused}
-use Rattle.netmesh_cli.specs.Jobs.{Job, MeshJob, GeomJob, task_of_job, IsBuilt, takes_of, puts_of}
-use Rattle.netmesh_cli.specs.Served.{AreApart, RefusalCause, RefusalStands, Keeps, WrittenBefore, IsAnswer}
-use Rattle.netmesh_cli.specs.Top.{IsNotYetOrMemory, IsWordsOrMemory, IfServed, IfRefused, WordsAnswer, WordsCause, WritesLine, Answers, Exactly, HoldsMesh, Telling}
+use Rattle.netmesh_cli.specs.Jobs.{Job, MeshJob, GeomJob, RulesJob, task_of_job, takes_of, puts_of}
+use Rattle.netmesh_cli.specs.Served.{AreApart, RefusalCause, RefusalStands, Keeps, WrittenBefore}
+use Rattle.netmesh_cli.specs.Top.{IsNotYetOrMemory, IsWordsOrMemory, IfServed, IfRefused, WordsAnswer, WordsCause, Answers, Exactly, HoldsMesh, Telling}
 use Rattle.netmesh_cli.proofs.Exclusion.{one_fault, never_both, one_command}
 use Rattle.netmesh_cli.proofs.Firsts.{never_first}
 use Rattle.netmesh_cli.proofs.Tolds.{told_all, told_as_before}
@@ -68,15 +68,16 @@ pub not_unbuilt : (words : List (List ℕ)) (task : Task) → ¬ IsUnbuilt task 
 not_unbuilt words task built asked ask = built (subst IsUnbuilt (one_command words ask.task task ask.command asked) ask.unbuilt)
 
 -- the verbs that are built are none of those that aren't
-pub job_is_built : (job : Job) → IsBuilt job → ¬ IsUnbuilt (task_of_job job)
-job_is_built (MeshJob task) built unbuilt = unbuilt built
-job_is_built (GeomJob geometry) built unbuilt = unbuilt
+pub job_is_built : (job : Job) → ¬ IsUnbuilt (task_of_job job)
+job_is_built (MeshJob task) unbuilt = unbuilt
+job_is_built (GeomJob geometry) unbuilt = unbuilt
+job_is_built (RulesJob rules) unbuilt = unbuilt
 
 -- a task is asked for by one job
 job_in : Job → Task → Job
 job_in other (MeshOf task) = MeshJob task
 job_in other (GeomOf name) = GeomJob name
-job_in other (RulesOf _) = other
+job_in other (RulesOf name) = RulesJob name
 job_in other (CheckOf _ _) = other
 job_in other (ViewOf _ _ _) = other
 job_in other (ReplayOf _ _ _) = other
@@ -86,6 +87,7 @@ job_again : (other job : Job) → job_in other (task_of_job job) ≡ job
 unfolding job_in
 job_again other (MeshJob task) = refl
 job_again other (GeomJob geometry) = refl
+job_again other (RulesJob rules) = refl
 
 pub one_job : (words : List (List ℕ)) (job other : Job) → IsCommand words (task_of_job job) → IsCommand words (task_of_job other) → job ≡ other
 one_job words job other first second = sym (job_again job job) ∙ ap (job_in job) (one_command words (task_of_job job) (task_of_job other) first second) ∙ job_again job other
@@ -94,11 +96,12 @@ one_job words job other first second = sym (job_again job job) ∙ ap (job_in jo
 pub job_apart : (words : List (List ℕ)) (job : Job) → IsCommand words (task_of_job job) → AreApart (puts_of job)
 job_apart words (MeshJob task) command = (λ listed. elim listed [ inl same ↦ command.3.2 (sym same) | inr none ↦ none ], ((λ none. none), tt))
 job_apart words (GeomJob geometry) command = tt
+job_apart words (RulesJob rules) command = tt
 
 -- ---- memory is refused for words that ask for what is built
 
-memory_told : (words : List (List ℕ)) (job : Job) → IsBuilt job → IsCommand words (task_of_job job) → (o0 o1 : SinkState) (given result : Refusal) → WordsRefused words given → Telling o0 o1 given result → Memory ≡ result
-memory_told words job built asked o0 o1 given result refused telling = sym (fact_told (λ (r : Refusal). r ≡ Memory) o0 o1 given result refl telling (memory_alone words (task_of_job job) (job_is_built job built) asked given refused))
+memory_told : (words : List (List ℕ)) (job : Job) → IsCommand words (task_of_job job) → (o0 o1 : SinkState) (given result : Refusal) → WordsRefused words given → Telling o0 o1 given result → Memory ≡ result
+memory_told words job asked o0 o1 given result refused telling = sym (fact_told (λ (r : Refusal). r ≡ Memory) o0 o1 given result refl telling (memory_alone words (task_of_job job) (job_is_built job) asked given refused))
 
 memory_answers : (job : Job) (s : FolderState) (o0 o1 : SinkState) → Answers job (Refused Memory) s s o0 o1
 memory_answers job s o0 o1 = record {
@@ -111,15 +114,15 @@ memory_answers job s o0 o1 = record {
   untaken = λ out. absurd cc;
 }
 
-pub refused_answers : (words : List (List ℕ)) (s : FolderState) (o0 o1 : SinkState) (given result : Refusal) → WordsRefused words given → Telling o0 o1 given result → (job : Job) → IsBuilt job → IsCommand words (task_of_job job) → Answers job (Refused result) s s o0 o1
-refused_answers words s o0 o1 given result refused telling job built asked = subst (λ (r : Refusal). Answers job (Refused r) s s o0 o1) (memory_told words job built asked o0 o1 given result refused telling) (memory_answers job s o0 o1)
+pub refused_answers : (words : List (List ℕ)) (s : FolderState) (o0 o1 : SinkState) (given result : Refusal) → WordsRefused words given → Telling o0 o1 given result → (job : Job) → IsCommand words (task_of_job job) → Answers job (Refused result) s s o0 o1
+refused_answers words s o0 o1 given result refused telling job asked = subst (λ (r : Refusal). Answers job (Refused r) s s o0 o1) (memory_told words job asked o0 o1 given result refused telling) (memory_answers job s o0 o1)
 
 memory_exactly : (job : Job) (failed u : Type 0) (files : Files) → Exactly job (Refused Memory) failed u files
 memory_exactly job failed u files = record { unaccepted = λ _. inr tt; refused = λ _ _. inr tt; complete = λ _ _ _. tt }
 
-pub refused_words_exactly : (words : List (List ℕ)) (h : Option Files) (failed u : Type 0) (o0 o1 : SinkState) (given result : Refusal) → WordsRefused words given → Telling o0 o1 given result → (job : Job) → IsBuilt job → IsCommand words (task_of_job job) → Told h (Exactly job (Refused result) failed u)
-refused_words_exactly words h failed u o0 o1 given result refused telling job built asked = told_all h (Exactly job (Refused result) failed u)
-    (λ files _. subst (λ (r : Refusal). Exactly job (Refused r) failed u files) (memory_told words job built asked o0 o1 given result refused telling) (memory_exactly job failed u files))
+pub refused_words_exactly : (words : List (List ℕ)) (h : Option Files) (failed u : Type 0) (o0 o1 : SinkState) (given result : Refusal) → WordsRefused words given → Telling o0 o1 given result → (job : Job) → IsCommand words (task_of_job job) → Told h (Exactly job (Refused result) failed u)
+refused_words_exactly words h failed u o0 o1 given result refused telling job asked = told_all h (Exactly job (Refused result) failed u)
+    (λ files _. subst (λ (r : Refusal). Exactly job (Refused r) failed u files) (memory_told words job asked o0 o1 given result refused telling) (memory_exactly job failed u files))
 
 -- nothing was written before the words were told
 pub unwritten_words : (words : List (List ℕ)) (w : Option (List ℕ)) (given : Refusal) → WordsRefused words given → WrittenBefore (λ _. ⊥) w w given
@@ -160,11 +163,11 @@ no_words_cause words job s0 s1 o0 o1 outcome answers = go outcome answers.cause
 
 -- ---- the job that the call found is that of any reading of the words
 
-pub other_answers : (words : List (List ℕ)) (job : Job) → IsCommand words (task_of_job job) → (outcome : Outcome) (s0 s1 : FolderState) (o0 o1 : SinkState) → Answers job outcome s0 s1 o0 o1 → (other : Job) → IsBuilt other → IsCommand words (task_of_job other) → Answers other outcome s0 s1 o0 o1
-other_answers words job asked outcome s0 s1 o0 o1 answers other built again = subst (λ (j : Job). Answers j outcome s0 s1 o0 o1) (one_job words job other asked again) answers
+pub other_answers : (words : List (List ℕ)) (job : Job) → IsCommand words (task_of_job job) → (outcome : Outcome) (s0 s1 : FolderState) (o0 o1 : SinkState) → Answers job outcome s0 s1 o0 o1 → (other : Job) → IsCommand words (task_of_job other) → Answers other outcome s0 s1 o0 o1
+other_answers words job asked outcome s0 s1 o0 o1 answers other again = subst (λ (j : Job). Answers j outcome s0 s1 o0 o1) (one_job words job other asked again) answers
 
-pub other_exactly : (words : List (List ℕ)) (job : Job) → IsCommand words (task_of_job job) → (outcome : Outcome) (h : Option Files) (failed u : Type 0) → Told h (Exactly job outcome failed u) → (other : Job) → IsBuilt other → IsCommand words (task_of_job other) → Told h (Exactly other outcome failed u)
-other_exactly words job asked outcome h failed u told other built again = subst (λ (j : Job). Told h (Exactly j outcome failed u)) (one_job words job other asked again) told
+pub other_exactly : (words : List (List ℕ)) (job : Job) → IsCommand words (task_of_job job) → (outcome : Outcome) (h : Option Files) (failed u : Type 0) → Told h (Exactly job outcome failed u) → (other : Job) → IsCommand words (task_of_job other) → Told h (Exactly other outcome failed u)
+other_exactly words job asked outcome h failed u told other again = subst (λ (j : Job). Told h (Exactly j outcome failed u)) (one_job words job other asked again) told
 
-pub other_mesh : (words : List (List ℕ)) (job : Job) → IsCommand words (task_of_job job) → (outcome : Outcome) (s0 s1 : FolderState) (o0 o1 : SinkState) → Answers job outcome s0 s1 o0 o1 → (task : MeshTask) → IsBuilt (MeshJob task) → IsCommand words (MeshOf task) → IfServed outcome (λ served. ToldBoth s0.held s1.held (HoldsMesh task served o0.written o1.written))
-other_mesh words job asked outcome s0 s1 o0 o1 answers task built again = mesh_held task outcome s0 s1 o0 o1 (other_answers words job asked outcome s0 s1 o0 o1 answers (MeshJob task) built again)
+pub other_mesh : (words : List (List ℕ)) (job : Job) → IsCommand words (task_of_job job) → (outcome : Outcome) (s0 s1 : FolderState) (o0 o1 : SinkState) → Answers job outcome s0 s1 o0 o1 → (task : MeshTask) → IsCommand words (MeshOf task) → IfServed outcome (λ served. ToldBoth s0.held s1.held (HoldsMesh task served o0.written o1.written))
+other_mesh words job asked outcome s0 s1 o0 o1 answers task again = mesh_held task outcome s0 s1 o0 o1 (other_answers words job asked outcome s0 s1 o0 o1 answers (MeshJob task) again)

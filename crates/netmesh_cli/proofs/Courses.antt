@@ -1,20 +1,18 @@
 -- How far a refused call came: from what its parts ensured, and from there to the cause of the refusal and to
 -- what stands after it. One proof for all verbs.
-use Rattle.std.proofs.Common.{◌≡◌, ◌≢◌, ◌⊎◌, inl, inr, ℕ, ◌≤◌, ◌++◌, List, [], ◌∷◌, map, sym, subst, ap, refl, ◌∙◌}
+use Rattle.std.proofs.Common.{◌≡◌, ◌≢◌, inl, inr, ℕ, ◌≤◌, ◌++◌, List, [], ◌∷◌, map, sym, subst, ap, refl, ◌∙◌}
 use Rattle.std.specs.Prelude.{Option}
-use Rattle.folder_io.specs.Causes.{Told, ToldBoth, GrowsByPrefix}
+use Rattle.folder_io.specs.Causes.{Told, ToldBoth}
 use Rattle.folder_io.specs.Names.{Files, held_at}
 use Rattle.folder_io.specs.States.{FolderState, SinkState, FailedFor}
-use Rattle.rule_reader.specs.declared.rule.Rule.{Rule}
 use Rattle.netmesh_cli.specs.declared.outcome.Outcome.{Outcome}
 use Rattle.netmesh_cli.specs.declared.outcome.Refusal.{Refusal}
 use Rattle.netmesh_cli.specs.declared.outcome.Refusal.TheVariants.{Words, In2d, Geometry, Rules, Folder, Out, Memory, NotYet}
 use Rattle.netmesh_cli.specs.Causes.{PutRefused, AnswerRefused, AnswerLeaves, IsUntaken}
-use Rattle.netmesh_cli.specs.Accepted.{AreRules}
 use Rattle.netmesh_cli.specs.Taking.{AreAccepted, TakesRefused}
 use Rattle.netmesh_cli.specs.declared.made.Put.{Put as PutValue}
-use Rattle.netmesh_cli.specs.Jobs.{put_of, Job, MeshJob, GeomJob, takes_of, puts_of, Put, Made, Makes, names_of_puts}
-use Rattle.netmesh_cli.specs.Served.{IsListed, AreApart, put_all, IsServed, IsAnswer, StopsAt, StopsAtPut, PutsRefused, HasAll, WrittenBefore, MakeRefused, Course, at_make, at_put, at_answer, FolderCause, of_take, of_put, RefusalCause, FolderStands, RefusalStands, Keeps, ArePutInOrder, HasPutInOrder}
+use Rattle.netmesh_cli.specs.Jobs.{put_of, Job, MeshJob, GeomJob, RulesJob, takes_of, puts_of, Put, Made, Makes, names_of_puts}
+use Rattle.netmesh_cli.specs.Served.{IsListed, AreApart, put_all, IsServed, IsAnswer, StopsAt, StopsAtPut, PutsRefused, HasAll, WrittenBefore, MakeRefused, Course, at_make, at_put, at_answer, of_take, of_put, RefusalCause, FolderStands, RefusalStands, Keeps, ArePutInOrder}
 use Rattle.netmesh_cli.proofs.Tolds.{told_weaker, told_as_before, told_both_weaker, told_before, told_then}
 use Rattle.netmesh_cli.proofs.Firsts.{named, no_out, no_words}
 use Rattle.netmesh_cli.proofs.Puts.{put_since, others_at, untouched, order_at, order_all}
@@ -25,6 +23,7 @@ use Rattle.netmesh_cli.proofs.Puts.{put_since, others_at, untouched, order_at, o
 pub makes_names : (job : Job) (files : Files) (made : Made) → Makes job files made → names_of_puts made.puts ≡ puts_of job
 makes_names (MeshJob task) files made makes = ap names_of_puts makes.puts
 makes_names (GeomJob geometry) files made makes = ap names_of_puts makes.puts
+makes_names (RulesJob rules) files made makes = ap names_of_puts makes.puts
 
 -- of files that are accepted
 pub makes_accepted : (job : Job) (files : Files) (made : Made) → Makes job files made → AreAccepted (takes_of job) files
@@ -34,9 +33,10 @@ makes_accepted (MeshJob task) files made makes = let rules = makes.rules in (
     holds = makes.geometry.holds;
     accepted = record { raw = makes.raw; geometry = makes.input.geometry; written = makes.geometry.written };
   },
-  (record { bytes = rules.bytes; holds = rules.holds; accepted = subst (λ (rs : List Rule). AreRules rules.bytes rs) makes.ruleless rules.are }, tt),
+  (record { bytes = rules.bytes; holds = rules.holds; accepted = record { rules = makes.input.rules; are = rules.are } }, tt),
 )
 makes_accepted (GeomJob geometry) files made makes = (record { bytes = makes.held.bytes; holds = makes.held.holds; accepted = record { raw = makes.raw; geometry = makes.geometry; written = makes.held.written } }, tt)
+makes_accepted (RulesJob rules) files made makes = (record { bytes = makes.held.bytes; holds = makes.held.holds; accepted = record { rules = makes.rules; are = makes.held.are } }, tt)
 
 -- ---- the exits of a call
 

@@ -1,7 +1,7 @@
 -- How the run of an accepted geometry by no rule ends: stuck, since a domain is named, and its front is its boundary.
 use Rattle.std.proofs.Common.{◌≡◌, ◌≢◌, ℕ, zero, suc, ◌+◌, ◌<◌, ◌==◌, Bool, true, false, not, ◌||◌, ◌&&◌, nat_eq, List, [], ◌∷◌, ◌++◌, map, length, slice_index_or, if◌then◌else◌, inl, inr, sym, subst, refl, ap, ◌∙◌, arith}
-use Rattle.std.specs.Prelude.{ℤ, Option, None, Some}
-use Rattle.std.specs.List.{list_any, flat_map}
+use Rattle.std.specs.Prelude.{ℤ, Option, None, Some, slice_get, ◌-◌}
+use Rattle.std.specs.List.{list_any, flat_map, AllZip}
 use Rattle.std.proofs.lemmas.List.{append_assoc, length_push}
 use Rattle.std.proofs.lemmas.Bool.{cases_eq, or_right}
 use Rattle.std.proofs.lemmas.Bool.Decides.{nat_tests}
@@ -21,13 +21,21 @@ use Rattle.size_field.specs.Cutting.{parts, on_both_sides, cut_at, bound, parts_
 use Rattle.size_field.proofs.Bounds.{turned_by, of_segment, segment_after, boundary_append}
 use Rattle.mesh_run.specs.declared.Options.{Options}
 use Rattle.mesh_run.specs.Boundary.{piece_boundary}
-use Rattle.mesh_run.specs.Opening.{end_of_front}
+use Rattle.mesh_run.specs.Opening.{unmeshed_run, end_of_front}
 use Rattle.geom_check.specs.Domains.{domain_numbers, sides_of}
 use Rattle.mesh_run.specs.Whole.{is_stopped, is_stuck}
 use Rattle.mesh_run.proofs.Bounded.{front_is_boundary}
 use Rattle.geom_check.proofs.DomainNumbers.{numbers_named}
-use Rattle.netmesh_cli.specs.Run.{MeshInput, run_options, run_of}
-use Rattle.netmesh_cli.proofs.Works.{run_in}
+use Rattle.rule_reader.specs.declared.rule.Rule.{Rule}
+use Rattle.state_law.specs.State.{State}
+use Rattle.rule_match.specs.declared.application.Application.{Application}
+use Rattle.rule_match.specs.Candidate.{Attempt}
+use Rattle.mesh_run.specs.declared.End.{End}
+use Rattle.mesh_run.specs.declared.WholeRun.{WholeRun}
+use Rattle.mesh_run.specs.declared.domain_run.DomainRun.{DomainRun}
+use Rattle.mesh_run.specs.Steps.{RunSetting, IsNext, AreNext, IsEndOf, state_after}
+use Rattle.mesh_run.specs.Runs.{opening_of, setting_of, IsDomainRun}
+use Rattle.netmesh_cli.specs.Run.{MeshInput, options_of, IsRunOf}
 
 -- ---- a domain that is named has a boundary
 
@@ -83,6 +91,10 @@ some_edge : (g : PlanarMap) (o : Options) (d : ℕ) → list_any (nat_eq d) (sid
 some_edge g o d named = cut_some d (parts_of g o.greatest o.grading) (λ s. some_part (bound g o.greatest o.grading s) MOST_HALVINGS (point_at g.points s.p) (point_at g.points s.q)) g.segments [] g.segments refl named
 
 -- ---- the ends of domains
+
+-- the opening of a domain's run, left as it is
+abbrev run_in : PlanarMap → Options → ℕ → DomainRun
+run_in g o n = unmeshed_run n g.segments (pieces_of g o.greatest o.grading)
 
 -- a front that isn't stuck is empty
 empty_front : (edge : ℕ × ℕ × ℕ → Edge) (front : List (ℕ × ℕ × ℕ)) → is_stuck (end_of_front front) ≡ false → map edge front ≡ []
@@ -155,11 +167,43 @@ among_numbers ss d positive named = numbers_named ss d ∙ both (nat_eq d 0) _ (
 ended : (a b : Bool) → a ≡ false → b ≡ true → (if a then Stopped else (if b then Stuck else Done)) ≡ Stuck
 ended a b e h = rw (e, h) refl
 
-pub accepted_stuck : (raw : RawGeometry) (input : MeshInput) → IsGeometryOf raw input.geometry → (run_of input).end ≡ Stuck
-accepted_stuck raw input is =
+-- ---- by no rule nothing applies
+
+no_next : (s : RunSetting) (st : State) (a : Application) → s.rules ≡ [] → ¬ IsNext s st a
+no_next s st a none next = unruled s.rules none next.best.attempt next.best.least.of.is_rule
+  where
+    unruled : (rules : List Rule) → rules ≡ [] → (t : Attempt) → slice_get rules (t.rule - 1) ≡ Some t.text → ⊥
+    unruled [] none t is = cc
+    unruled (_ ∷ _) none t is = cc
+
+some_left : (front : List (ℕ × ℕ × ℕ)) → front ≢ [] → Stuck ≡ end_of_front front
+some_left [] some = absurd (some refl)
+some_left (line ∷ lines) some = refl
+
+-- so a domain's run ends with its opening
+end_by_none : (s : RunSetting) (limit : Option ℕ) (st : State) (made : List Application) (e : End) → s.rules ≡ [] → AreNext s st made → IsEndOf s limit (state_after st made) (length made) e → e ≡ end_of_front st.front
+end_by_none s limit st [] Done none next ended = sym (ap end_of_front ended)
+end_by_none s limit st [] Stuck none next ended = some_left st.front ended.0
+end_by_none s limit st [] Stopped none next ended = absurd (no_next s st ended.0.application none ended.0.next)
+end_by_none s limit st (a ∷ made) e none next ended = absurd (no_next s st a none next.0)
+
+same_any : (p : End → Bool) (g : PlanarMap) (rules : List Rule) (o : Options) (ds : List ℕ) (rs : List DomainRun) → rules ≡ [] → AllZip (IsDomainRun g rules o) ds rs → list_any (λ r. p r.end) rs ≡ list_any (λ r. p r.end) (map (run_in g o) ds)
+same_any p g rules o [] [] none runs = refl
+same_any p g rules o [] (_ ∷ _) none runs = absurd runs
+same_any p g rules o (_ ∷ _) [] none runs = absurd runs
+same_any p g rules o (d ∷ ds) (r ∷ rs) none runs =
+    let is = runs.0 in
+    let first = end_by_none (setting_of g rules o d) o.limit (opening_of g o d) r.applications r.end none is.next_ones is.ended in
+    let later = same_any p g rules o ds rs none runs.1 in
+    λ i. p (first i) || later i
+
+pub accepted_stuck : (raw : RawGeometry) (input : MeshInput) (run : WholeRun) → IsGeometryOf raw input.geometry → input.rules ≡ [] → IsRunOf input run → run.end ≡ Stuck
+accepted_stuck raw input run is none of_run =
     let g = input.geometry in
     let some = is.accepted.domain in
     let of_file = named_at g.shift raw.points 1 raw.segments some.0 some.1 some.2 some.3 some.4 in
     let found : IsNamed g.segments = subst IsNamed (sym is.segments) of_file in
-    let o = run_options g.shift input.options in
-    ended _ _ (none_stopped g o (domain_numbers g.segments)) (some_stuck g o (domain_numbers g.segments) found.domain (among_numbers g.segments found.domain found.positive found.named) (some_edge g o found.domain found.named))
+    let o = options_of input in
+    of_run.end ∙ ended _ _
+    (same_any is_stopped g input.rules o (domain_numbers g.segments) run.domains none of_run.domains ∙ none_stopped g o (domain_numbers g.segments))
+    (same_any is_stuck g input.rules o (domain_numbers g.segments) run.domains none of_run.domains ∙ some_stuck g o (domain_numbers g.segments) found.domain (among_numbers g.segments found.domain found.positive found.named) (some_edge g o found.domain found.named))

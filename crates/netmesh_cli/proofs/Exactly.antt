@@ -1,15 +1,15 @@
 -- Which answers may come of files that are told: an answer that has its cause is the only one where the causes
 -- of the others don't hold.
-use Rattle.std.proofs.Common.{◌≡◌, ◌⊎◌, inl, inr, ℕ, List, subst, refl}
+use Rattle.std.proofs.Common.{◌≡◌, ◌⊎◌, inl, inr, ℕ, List}
 use Rattle.std.specs.Prelude.{Option, Some}
 use Rattle.folder_io.specs.Causes.{Told, ToldBoth}
 use Rattle.folder_io.specs.Names.{Files}
-use Rattle.folder_io.specs.States.{FolderState, SinkState}
+use Rattle.folder_io.specs.States.{FolderState}
 use Rattle.netmesh_cli.specs.declared.outcome.Outcome.{Outcome}
 use Rattle.netmesh_cli.specs.declared.outcome.Outcome.TheVariants.{Refused}
 use Rattle.netmesh_cli.specs.declared.outcome.Refusal.{Refusal}
 use Rattle.netmesh_cli.specs.declared.outcome.Refusal.TheVariants.{Words, In2d, Geometry, Rules, Folder, Out, Memory, NotYet}
-use Rattle.netmesh_cli.specs.Causes.{IsMemory, IsUntaken, HasFailed}
+use Rattle.netmesh_cli.specs.Causes.{IsMemory, HasFailed}
 use Rattle.netmesh_cli.specs.Taking.{AreAccepted, FirstRefused, TakesRefused}
 use Rattle.netmesh_cli.specs.Jobs.{Job, takes_of, EndsSo}
 use Rattle.netmesh_cli.specs.Served.{IsServed, FolderCause, of_take, of_put, RefusalCause}

@@ -1,9 +1,9 @@
 -- The first of the files that are taken which isn't accepted: there is none where all are accepted, and it
 -- gives one refusal. So what a refused take says is so of the files that are told.
-use Rattle.std.proofs.Common.{◌≡◌, ◌≢◌, ◌⊎◌, inl, inr, ℕ, ◌≤◌, ◌<◌, List, [], ◌∷◌, length, sym, subst, ap, refl, ◌∙◌, arith}
-use Rattle.std.specs.Prelude.{Option, None, Some, MatchOption}
+use Rattle.std.proofs.Common.{◌≡◌, ◌⊎◌, inl, inr, ℕ, ◌≤◌, ◌<◌, List, [], ◌∷◌, length, sym, subst, ap, refl, ◌∙◌, arith}
+use Rattle.std.specs.Prelude.{Option, Some, MatchOption}
 use Rattle.folder_io.specs.Causes.{Told}
-use Rattle.folder_io.specs.Names.{Files, Holds, IsLonger, IsMissing, held_at}
+use Rattle.folder_io.specs.Names.{Files, Holds, IsLonger, IsMissing}
 use Rattle.folder_io.specs.States.{FolderState}
 use Rattle.folder_io.proofs.Counts.{rose_from_earlier}
 use Rattle.netmesh_cli.specs.declared.words_fault.WordsFault.{WordsFault}
@@ -11,7 +11,7 @@ use Rattle.netmesh_cli.specs.declared.outcome.Refusal.{Refusal}
 use Rattle.netmesh_cli.specs.declared.outcome.Refusal.TheVariants.{Words, In2d, Geometry, Rules, Folder, Out, Memory, NotYet}
 use Rattle.netmesh_cli.specs.Causes.{HoldsWithin, FolderFault, call_failed, too_long, missing, FetchRefused, HasFailed}
 use Rattle.netmesh_cli.specs.Kinds.{limit_of, Rejects, CanReject}
-use Rattle.netmesh_cli.specs.Taking.{Taken, HoldsAccepted, HoldsRejected, FileRefused, FirstOf, AreAccepted, FirstRefused, TakeRefused, TakesRefused, names_taken}
+use Rattle.netmesh_cli.specs.Taking.{Taken, HoldsAccepted, HoldsRejected, FileRefused, AreAccepted, FirstRefused, TakeRefused, TakesRefused, names_taken}
 use Rattle.netmesh_cli.specs.BytesRefused.{MayRefuse}
 use Rattle.netmesh_cli.specs.Served.{IsListed}
 use Rattle.netmesh_cli.specs.Top.{IsFailureOrMemory}

@@ -16,6 +16,7 @@ pub mod Readable
 pub mod Excluded
 pub mod Accepting
 pub mod Firsts
+pub mod States
 -- what is made: areas, comments, and the run of a geometry
 pub mod Sweeps
 pub mod Comments

@@ -1,23 +1,20 @@
 -- What the verbs make of the files that they take, and why they make nothing: one section for a verb.
-use Rattle.std.proofs.Common.{◌≡◌, inl, inr, ℕ, ◌≤◌, List, [], ◌∷◌, sym, subst, refl, ap, ◌∙◌}
+use Rattle.std.proofs.Common.{◌≡◌, inl, inr, ℕ, ◌≤◌, List, [], ◌∷◌, sym, subst, ap, ◌∙◌}
 use Rattle.std.specs.Prelude.{Option}
 use Rattle.folder_io.specs.Causes.{Told}
 use Rattle.folder_io.specs.Names.{Files}
 use Rattle.folder_io.specs.States.{FolderState}
 use Rattle.in2d_reader.specs.declared.geometry.RawGeometry.{RawGeometry}
+use Rattle.rule_reader.specs.declared.rule.Rule.{Rule}
 use Rattle.geom_check.specs.Geometry.{PlanarMap}
-use Rattle.mesh_run.specs.declared.End.{End}
-use Rattle.netmesh_cli.specs.declared.outcome.Outcome.TheVariants.{Shown}
+use Rattle.mesh_run.specs.declared.WholeRun.{WholeRun}
 use Rattle.netmesh_cli.specs.declared.outcome.Refusal.{Refusal}
 use Rattle.netmesh_cli.specs.declared.outcome.Refusal.TheVariants.{Words, In2d, Geometry, Rules, Folder, Out, Memory, NotYet}
 use Rattle.netmesh_cli.specs.Commands.{MeshTask}
-use Rattle.netmesh_cli.specs.Words.{sizing}
-use Rattle.netmesh_cli.specs.Accepted.{AreRules}
-use Rattle.netmesh_cli.specs.Causes.{HoldsWithin, IsMemory}
-use Rattle.netmesh_cli.specs.Taking.{HoldsAccepted, TakeRefused, geometry_at, ruleless_file_at}
-use Rattle.netmesh_cli.specs.Run.{sized_input, run_of, log_of, mesh_of, line_of, outcome_of, IsCovered}
-use Rattle.netmesh_cli.specs.Shown.{shown_text}
-use Rattle.netmesh_cli.specs.Jobs.{Job, MeshJob, GeomJob, Made, IsMeshed, IsDrawn, HoldsGeometry, HoldsRules}
+use Rattle.netmesh_cli.specs.Causes.{IsMemory}
+use Rattle.netmesh_cli.specs.Taking.{HoldsAccepted, TakeRefused, geometry_at, rule_file_at}
+use Rattle.netmesh_cli.specs.Run.{MeshInput, IsRunOf, log_of, mesh_of, line_of, outcome_of, IsExactRun}
+use Rattle.netmesh_cli.specs.Jobs.{Job, MeshJob, GeomJob, RulesJob, Made, IsMeshed, HoldsGeometry, HoldsRules}
 use Rattle.netmesh_cli.specs.Served.{MakeRefused}
 use Rattle.netmesh_cli.proofs.Tolds.{told_weaker, told_both}
 use Rattle.netmesh_cli.proofs.Firsts.{take_since}
@@ -39,51 +36,61 @@ memory_makes job s0 s1 (NotYet part) memory = absurd memory
 pub geom_refused : (name : List ℕ) (s0 s1 : FolderState) (r : Refusal) → TakeRefused s0 s1 r (geometry_at name) → MakeRefused (GeomJob name) s0 s1 r
 geom_refused name s0 s1 r refused = make_refused (GeomJob name) s0 s1 r (inl refused)
 
-pub geom_made : (name : List ℕ) (held : Option Files) (raw : RawGeometry) (g : PlanarMap) (made : Made) → made.puts ≡ [] → made.answer ≡ shown_text raw g → made.outcome ≡ Shown → Told held (λ files. HoldsGeometry files name raw g) → Told held (λ files. IsDrawn name files made)
-geom_made name held raw g made puts answer outcome told = told_weaker held _ (λ files. IsDrawn name files made) (λ files holds. record { raw = raw; geometry = g; held = holds; puts = puts; answer = answer; outcome = outcome }) told
+-- ---- rules
+
+pub rules_refused : (name : List ℕ) (s0 s1 : FolderState) (r : Refusal) → TakeRefused s0 s1 r (rule_file_at name) → MakeRefused (RulesJob name) s0 s1 r
+rules_refused name s0 s1 r refused = make_refused (RulesJob name) s0 s1 r (inl refused)
 
 -- ---- mesh
 
 geometry_accepted : (held : Option Files) (name : List ℕ) (raw : RawGeometry) (g : PlanarMap) → Told held (λ files. HoldsGeometry files name raw g) → Told held (λ files. HoldsAccepted files (geometry_at name))
 geometry_accepted held name raw g told = told_weaker held _ _ (λ files h. record { bytes = h.bytes; holds = h.holds; accepted = record { raw = raw; geometry = g; written = h.written } }) told
 
-pub ruleless_held : (held : Option Files) (name taken bytes : List ℕ) → bytes ≡ taken → Told held (λ files. HoldsWithin 1048576 files name taken) → AreRules bytes [] → Told held (λ files. HoldsRules files name [])
-ruleless_held held name taken bytes same told are = told_weaker held _ _ (λ files h. record { bytes = taken; holds = h; are = subst (λ (b : List ℕ). AreRules b []) same are }) told
-
 pub mesh_at_geometry : (task : MeshTask) (s0 s1 : FolderState) (r : Refusal) → TakeRefused s0 s1 r (geometry_at task.geometry) → MakeRefused (MeshJob task) s0 s1 r
 mesh_at_geometry task s0 s1 r refused = make_refused (MeshJob task) s0 s1 r (inl refused)
 
-pub mesh_at_rules : (task : MeshTask) (s0 s1 s2 : FolderState) (raw : RawGeometry) (g : PlanarMap) (r : Refusal) → s1.held ≡ s0.held → s0.faults ≤ s1.faults → Told s0.held (λ files. HoldsGeometry files task.geometry raw g) → TakeRefused s1 s2 r (ruleless_file_at task.rules) → MakeRefused (MeshJob task) s0 s2 r
-mesh_at_rules task s0 s1 s2 raw g r same kept holds refused = make_refused (MeshJob task) s0 s2 r (inr (geometry_accepted s0.held task.geometry raw g holds, inl (take_since s0 s1 s2 r (ruleless_file_at task.rules) same kept refused)))
+pub mesh_at_rules : (task : MeshTask) (s0 s1 s2 : FolderState) (raw : RawGeometry) (g : PlanarMap) (r : Refusal) → s1.held ≡ s0.held → s0.faults ≤ s1.faults → Told s0.held (λ files. HoldsGeometry files task.geometry raw g) → TakeRefused s1 s2 r (rule_file_at task.rules) → MakeRefused (MeshJob task) s0 s2 r
+mesh_at_rules task s0 s1 s2 raw g r same kept holds refused = make_refused (MeshJob task) s0 s2 r (inr (geometry_accepted s0.held task.geometry raw g holds, inl (take_since s0 s1 s2 r (rule_file_at task.rules) same kept refused)))
 
--- what the run of a geometry gives
-pub record IsRunOf (task : MeshTask) (g : PlanarMap) (made : Made) : Type 0 where
+-- what is made of a run: its log and its mesh are put, its line is written, and the outcome is that of its end
+pub record IsMadeOf (task : MeshTask) (input : MeshInput) (run : WholeRun) (made : Made) : Type 0 where
   pub puts : made.puts
-      ≡ record { name = task.log; bytes = log_of (sized_input g task.options.maxh task.options.grading) } ∷ record { name = task.mesh; bytes = mesh_of (sized_input g task.options.maxh task.options.grading) } ∷ []
-  pub answer : made.answer ≡ line_of (sized_input g task.options.maxh task.options.grading)
-  pub outcome : made.outcome ≡ outcome_of (run_of (sized_input g task.options.maxh task.options.grading)).end
-  pub covered : IsCovered (sized_input g task.options.maxh task.options.grading)
+      ≡ record { name = task.log; bytes = log_of run } ∷ record { name = task.mesh; bytes = mesh_of input run } ∷ []
+  pub answer : made.answer ≡ line_of input run
+  pub outcome : made.outcome ≡ outcome_of run.end
 
-pub run_of_texts : (task : MeshTask) (g : PlanarMap) (made : Made) (log mesh line : List ℕ) (end : End) → made.puts ≡ record { name = task.log; bytes = log } ∷ record { name = task.mesh; bytes = mesh } ∷ [] → made.answer ≡ line → made.outcome ≡ outcome_of end → log ≡ log_of (sized_input g task.options.maxh task.options.grading) → mesh ≡ mesh_of (sized_input g task.options.maxh task.options.grading) → line ≡ line_of (sized_input g task.options.maxh task.options.grading) → (run_of (sized_input g task.options.maxh task.options.grading)).end ≡ end → IsCovered (sized_input g task.options.maxh task.options.grading) → IsRunOf task g made
-run_of_texts task g made log mesh line end puts answer outcome is_log is_mesh is_line is_end covered = record {
-  puts = puts ∙ (λ i. record { name = task.log; bytes = is_log i } ∷ record { name = task.mesh; bytes = is_mesh i } ∷ []);
-  answer = answer ∙ is_line;
-  outcome = outcome ∙ ap outcome_of (sym is_end);
-  covered = covered;
+-- the texts of a run that are made
+pub record AreTexts (input : MeshInput) (run : WholeRun) (log mesh line : List ℕ) : Type 0 where
+  pub log_is : log ≡ log_of run
+  pub mesh_is : mesh ≡ mesh_of input run
+  pub line_is : line ≡ line_of input run
+
+pub made_of_run : (task : MeshTask) (input : MeshInput) (run : WholeRun) (made : Made) (log mesh line : List ℕ) → AreTexts input run log mesh line → made.puts ≡ record { name = task.log; bytes = log } ∷ record { name = task.mesh; bytes = mesh } ∷ [] → made.answer ≡ line → made.outcome ≡ outcome_of run.end → IsMadeOf task input run made
+made_of_run task input run made log mesh line texts puts answer outcome = record {
+  puts = puts ∙ (λ i. record { name = task.log; bytes = texts.log_is i } ∷ record { name = task.mesh; bytes = texts.mesh_is i } ∷ []);
+  answer = answer ∙ texts.line_is;
+  outcome = outcome;
 }
 
-pub mesh_made : (task : MeshTask) (h0 h1 : Option Files) (raw : RawGeometry) (g : PlanarMap) (made : Made) → task.options ≡ sizing task.options.maxh task.options.grading → h1 ≡ h0 → Told h0 (λ files. HoldsGeometry files task.geometry raw g) → Told h1 (λ files. HoldsRules files task.rules []) → IsRunOf task g made → Told h0 (λ files. IsMeshed task files made)
-mesh_made task h0 h1 raw g made built same holds rules run = told_both h0 _ _ (λ files. IsMeshed task files made)
-    (λ files p r. record {
-      input = sized_input g task.options.maxh task.options.grading;
+-- the geometry and the rules that are held are those of the input
+pub record AreHeld (held : Option Files) (task : MeshTask) (raw : RawGeometry) (input : MeshInput) : Type 0 where
+  pub geometry : Told held (λ files. HoldsGeometry files task.geometry raw input.geometry)
+  pub rules : Told held (λ files. HoldsRules files task.rules input.rules)
+  pub options : input.options ≡ task.options
+
+pub mesh_made : (task : MeshTask) (held : Option Files) (raw : RawGeometry) (input : MeshInput) (run : WholeRun) (made : Made) → AreHeld held task raw input → IsRunOf input run → IsExactRun input run → IsMadeOf task input run made → Told held (λ files. IsMeshed task files made)
+mesh_made task held raw input run made are is_run exact of_run = told_both held _ _ (λ files. IsMeshed task files made)
+    (λ files g r. record {
+      input = input;
       raw = raw;
-      geometry = p;
+      geometry = g;
       rules = r;
-      ruleless = refl;
-      options = sym built;
-      puts = run.puts;
-      answer = run.answer;
-      outcome = run.outcome;
-      covered = run.covered;
+      options = are.options;
+      run = run;
+      is_run = is_run;
+      exact = exact;
+      puts = of_run.puts;
+      answer = of_run.answer;
+      outcome = of_run.outcome;
     })
-    holds (subst (λ (h : Option Files). Told h (λ files. HoldsRules files task.rules [])) same rules)
+    are.geometry are.rules

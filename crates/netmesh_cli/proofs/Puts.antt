@@ -1,9 +1,9 @@
 -- What is held after some files are put one after another, and where the puts stop.
-use Rattle.std.proofs.Common.{◌≡◌, ◌≢◌, ◌⊎◌, inl, inr, ℕ, ◌≤◌, List, [], ◌∷◌, ◌++◌, map, length, take, drop, ◌-◌, get_or, sym, subst, ap, refl, ◌∙◌}
+use Rattle.std.proofs.Common.{◌≡◌, inl, inr, ℕ, ◌≤◌, List, [], ◌∷◌, ◌++◌, map, length, take, drop, ◌-◌, get_or, sym, subst, ap, refl, ◌∙◌}
 use Rattle.std.specs.FinMap as finite
 use Rattle.std.specs.List.{AllByRecursion}
 use Rattle.folder_io.specs.Causes.{ToldBoth}
-use Rattle.folder_io.specs.Names.{Files, Holds, held_at, SameBut}
+use Rattle.folder_io.specs.Names.{Files, held_at, SameBut}
 use Rattle.folder_io.specs.States.{FolderState}
 use Rattle.folder_io.proofs.Counts.{rose_from_earlier}
 use Rattle.folder_io.proofs.Tables.{held_inserted, same_but_inserted}

@@ -1,9 +1,10 @@
--- A geometry that the reader gives is one that can be checked, and a size that words ask for can be moved to
--- the grid.
-use Rattle.std.proofs.Common.{◌≡◌, ℕ, ◌+◌, ◌≤◌, ◌==◌, ◌||◌, Bool, true, false, List, [], ◌∷◌, cond, refl, sym, subst, ap, ◌∙◌, arith, inl, inr}
+-- A geometry that the reader gives is one that can be checked, and the options that words ask for are in their
+-- ranges.
+use Rattle.std.proofs.Common.{◌≡◌, ℕ, ◌+◌, ◌≤◌, ◌==◌, ◌||◌, Bool, true, false, List, [], ◌∷◌, ◌&&◌, nat_le, if◌then◌else◌, cond, refl, sym, subst, ap, ◌∙◌, arith, inl, inr}
 use Rattle.std.specs.Prelude.{Option, None, Some, IsSome, IfSome, All, unsigned_abs, ℤ, pos, negsuc, ◌≤ℤ◌}
 use Rattle.std.specs.List.{AllByRecursion, position_from}
 use Rattle.std.proofs.lemmas.Int.{ints}
+use Rattle.std.proofs.lemmas.Bool.Decides.{nat_tests}
 use Rattle.std.proofs.lemmas.Bool.{cases_eq, eq-eqb, ne_eqb}
 use Rattle.std.proofs.lemmas.List.Elements.{All-nil, All-cons}
 use Rattle.word_scan.specs.declared.decimals.Dec.{Dec}
@@ -16,7 +17,11 @@ use Rattle.in2d_reader.specs.declared.geometry.RawGeometry.{RawGeometry}
 use Rattle.in2d_reader.specs.Grammar.{is_known, HasEnds}
 use Rattle.in2d_reader.specs.Normal.{IsDec, IsPointRow, IsSegmentRow, IsMaterialRow, CanPrint}
 use Rattle.geom_check.specs.Placed.{IsReadable, IsReadableNumber, IsReadablePoint, IsReadableSegment, IsReadableMaterial, IsReadableIfAny}
-use Rattle.netmesh_cli.specs.Commands.{IsSize, HasValue, IsCommand, task_of}
+use Rattle.word_scan.specs.Numerals.{whole_of, value_of, is_whole}
+use Rattle.netmesh_cli.specs.CommandLine.{Given}
+use Rattle.netmesh_cli.specs.Commands.{IsSize, IsWholeFrom, HasValue, AreOptions, IsCommand, task_of}
+use Rattle.netmesh_cli.specs.Jobs.{AreInRange}
+use Rattle.netmesh_cli.specs.declared.command.MeshOptions.{MeshOptions}
 use Rattle.netmesh_cli.specs.declared.command.MeshCall.{MeshCall}
 use Rattle.netmesh_cli.specs.declared.command.Command.TheVariants as commands
 
@@ -77,5 +82,33 @@ value_readable : (given : Option (List ℕ)) (value : Option Dec) → HasValue I
 value_readable None value none = subst IsReadableIfAny (sym none) tt
 value_readable (Some word) value has = subst IsReadableIfAny (sym has.2) (word_readable word has.0 has.1.written)
 
-pub call_readable : (words : List (List ℕ)) (call : MeshCall) → IsCommand words (task_of (commands.Mesh call)) → IsReadableIfAny call.options.maxh
-call_readable words call command = value_readable command.3.1.1.maxh call.options.maxh command.3.1.3.1.maxh
+-- ---- the whole numbers that words ask for
+
+-- a number that a word writes is not above the greatest
+not_above : (whole within : Bool) (value greatest n : ℕ) → nat_le value greatest ≡ within → (if whole && within then Some value else None) ≡ Some n → n ≤ greatest
+not_above true true value greatest n at_most written = subst (λ (m : ℕ). m ≤ greatest) (some_same value n written) (grind (arith, nat_tests))
+  where
+    some_same : (v m : ℕ) → Some v ≡ Some m → v ≡ m
+    some_same v m e = cc
+not_above true false value greatest n at_most written = absurd (cc)
+not_above false within value greatest n at_most written = absurd (cc)
+
+at_least : (least greatest : ℕ) (given : Option (List ℕ)) (value : Option ℕ) → HasValue (IsWholeFrom least greatest) given value → IfSome value (λ n. least ≤ n)
+at_least least greatest None value none = subst (λ (v : Option ℕ). IfSome v (λ n. least ≤ n)) (sym none) tt
+at_least least greatest (Some word) value has = subst (λ (v : Option ℕ). IfSome v (λ n. least ≤ n)) (sym has.2) has.1.enough
+
+at_most : (least greatest : ℕ) (given : Option (List ℕ)) (value : Option ℕ) → HasValue (IsWholeFrom least greatest) given value → IfSome value (λ n. n ≤ greatest)
+at_most least greatest None value none = subst (λ (v : Option ℕ). IfSome v (λ n. n ≤ greatest)) (sym none) tt
+at_most least greatest (Some word) value has = subst (λ (v : Option ℕ). IfSome v (λ n. n ≤ greatest)) (sym has.2) (not_above (is_whole word) (nat_le (value_of word) greatest) (value_of word) greatest has.0 refl has.1.written)
+
+-- the options of a call are in the ranges of their words
+options_in_range : (given : Given) (options : MeshOptions) → AreOptions given options → AreInRange options
+options_in_range given options are = record {
+  maxh = value_readable given.maxh options.maxh are.maxh;
+  grading = at_most 0 10000 given.grading options.grading are.grading;
+  class_least = at_least 1 16 given.class options.class are.class;
+  class_greatest = at_most 1 16 given.class options.class are.class;
+}
+
+pub call_in_range : (words : List (List ℕ)) (call : MeshCall) → IsCommand words (task_of (commands.Mesh call)) → AreInRange call.options
+call_in_range words call command = options_in_range command.3.1.1 call.options command.3.1.3.1

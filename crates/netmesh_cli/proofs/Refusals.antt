@@ -1,5 +1,5 @@
 -- What a refusal says, from how it was made.
-use Rattle.std.proofs.Common.{◌≡◌, ◌≢◌, ℕ, List, Option, ◌⊎◌, inl, inr, sym, subst, refl}
+use Rattle.std.proofs.Common.{◌≡◌, ◌≢◌, ℕ, List, ◌⊎◌, inl, inr, sym, subst, refl}
 use Rattle.std.specs.Prelude.{Err}
 use Rattle.folder_io.specs.States.{FolderState}
 use Rattle.rule_reader.specs.declared.fault.RuleRefusal.{RuleRefusal}

@@ -1,7 +1,7 @@
 -- From how a call went, and how its refusal was told, to what the top call promises.
-use Rattle.std.proofs.Common.{◌≡◌, ◌≢◌, ℕ, ◌≤◌, ◌⊎◌, inl, inr, ◌++◌, List, [], ◌∷◌, sym, subst, ap, refl, ◌∙◌}
+use Rattle.std.proofs.Common.{◌≡◌, ℕ, ◌≤◌, ◌⊎◌, inl, inr, ◌++◌, List, [], sym, subst, ap, ◌∙◌}
 use Rattle.std.specs.Prelude.{Option}
-use Rattle.folder_io.specs.Causes.{Told, ToldBoth, GrowsByPrefix}
+use Rattle.folder_io.specs.Causes.{ToldBoth, GrowsByPrefix}
 use Rattle.folder_io.specs.Names.{Files}
 use Rattle.folder_io.specs.States.{FolderState, SinkState}
 use Rattle.folder_io.proofs.Counts.{rose_from_earlier, rose_until_later}
@@ -11,8 +11,8 @@ use Rattle.netmesh_cli.specs.declared.outcome.Refusal.{Refusal}
 use Rattle.netmesh_cli.specs.declared.outcome.Refusal.TheVariants.{Words, In2d, Geometry, Rules, Folder, Out, Memory, NotYet}
 use Rattle.netmesh_cli.specs.Commands.{MeshTask}
 use Rattle.netmesh_cli.specs.Causes.{IsUntaken}
-use Rattle.netmesh_cli.specs.Jobs.{Job, MeshJob, GeomJob, puts_of, EndsSo, Put}
-use Rattle.netmesh_cli.specs.Served.{AreApart, put_all, IsServed, IsAnswer, HasAll, WrittenBefore, Course, FolderCause, RefusalCause, RefusalStands, Keeps}
+use Rattle.netmesh_cli.specs.Jobs.{Job, MeshJob, GeomJob, RulesJob, puts_of, EndsSo, Put}
+use Rattle.netmesh_cli.specs.Served.{AreApart, put_all, IsServed, IsAnswer, HasAll, WrittenBefore, Course, RefusalCause, RefusalStands, Keeps}
 use Rattle.netmesh_cli.specs.Lines.{refusal_line}
 use Rattle.netmesh_cli.specs.Top.{IfServed, IfRefused, IsRefusedAnd, IsServedOr, WritesOrFails, WritesLine, HasLine, Telling, no_line, line_told, no_memory, Answers, HoldsMesh}
 use Rattle.netmesh_cli.proofs.Tolds.{told_both_weaker}
@@ -118,6 +118,7 @@ refused_answers job apart s0 s1 o0 o1 o2 given result later course written nothi
 never_refused : (job : Job) (r : Refusal) → ¬ EndsSo job (Refused r)
 never_refused (MeshJob task) r ends = ends
 never_refused (GeomJob geometry) r ends = ends
+never_refused (RulesJob rules) r ends = ends
 
 if_served : (outcome : Outcome) (P : Outcome → Type 0) → P outcome → IfServed outcome P
 if_served Done P fact = fact
@@ -177,12 +178,13 @@ mesh_served task outcome w0 w1 old new s = let m = s.makes in record {
   raw = m.raw;
   geometry = m.geometry;
   rules = m.rules;
-  ruleless = m.ruleless;
   options = m.options;
+  run = m.run;
+  is_run = m.is_run;
   files = s.put ∙ ap (λ (ps : List Put). put_all ps old) m.puts;
   line = subst (λ (b : List ℕ). ToldBoth w0 w1 (λ before now. now ≡ before ++ b)) m.answer s.written;
   ended = s.ends ∙ m.outcome;
-  covered = m.covered;
+  exact = m.exact;
 }
 
 pub mesh_held : (task : MeshTask) (outcome : Outcome) (s0 s1 : FolderState) (o0 o1 : SinkState) → Answers (MeshJob task) outcome s0 s1 o0 o1 → IfServed outcome (λ served. ToldBoth s0.held s1.held (HoldsMesh task served o0.written o1.written))

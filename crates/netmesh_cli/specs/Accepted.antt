@@ -7,7 +7,7 @@
 -- HasGeometry       they are the text of an accepted geometry
 -- AreRules          the bytes are a rule file with these rules
 -- IsRulesFault      why they are no rule file
-use Rattle.std.specs.Prelude.{◌≢◌, ℕ, List, []}
+use Rattle.std.specs.Prelude.{◌≢◌, ℕ, List}
 use Rattle.word_scan.specs.Scan.{words_of}
 use Rattle.in2d_reader.specs.declared.geometry.RawGeometry.{RawGeometry}
 use Rattle.in2d_reader.specs.declared.refusal.In2dRefusal.{In2dRefusal}
@@ -62,11 +62,10 @@ pub record HasGeometry (bytes : List ℕ) : Type 0 where
 abbrev pub AreRules : List ℕ → List Rule → Type 0
 AreRules bytes rules = Admits (rule_words_of bytes) rules
 
--- the bytes are a rule file that holds a rule
+-- the bytes are a rule file
 pub record HasRules (bytes : List ℕ) : Type 0 where
   pub rules : List Rule
   pub are : AreRules bytes rules
-  pub some : rules ≢ []
 
 -- the bytes are no rule file, and this is the fault
 pub record IsRulesFault (bytes : List ℕ) (fault : RuleRefusal) : Type 0 where

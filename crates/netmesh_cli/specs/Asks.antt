@@ -15,17 +15,24 @@ abbrev pub place_rule : ℕ → Rule
 place_rule k = record (new_rule (place_word k)) { required = true; action = Some Set }
 
 abbrev pub option_rule : Setting → Rule
-option_rule setting = record (new_rule (setting_word setting)) { long = Some (setting_word setting); action = Some Set }
+option_rule setting =
+    record (new_rule (setting_word setting)) {
+      long = Some (setting_word setting);
+      action = Some Set;
+    }
 
 abbrev pub no_places : App
-no_places = on_top (λ s. record s { no_binary_name = true; disable_help_flag = true }) (new_app (codes "netmesh"))
+no_places = on_top (λ s. record s { no_binary_name = true; disable_help_flag = true })
+    (new_app (codes "netmesh"))
 
 abbrev pub with_places : ℕ → App
 with_places zero = no_places
 with_places (suc n) = with_rule (with_places n) (place_rule (suc n))
 
 abbrev pub with_options : App → App
-with_options app = with_rule (with_rule (with_rule (with_rule app (option_rule Maxh)) (option_rule Grading)) (option_rule Class)) (option_rule Steps)
+with_options app =
+    with_rule (with_rule (with_rule (with_rule app
+    (option_rule Maxh)) (option_rule Grading)) (option_rule Class)) (option_rule Steps)
 
 -- the command of a verb with so many places
 abbrev pub asks : ℕ → Bool → App

@@ -48,10 +48,18 @@ pub data Reads : Given → List (List ℕ) → List (List ℕ) → Given → Typ
   -- no word is left
   AtEnd : (given : Given) → Reads given [] [] given
   -- `--`, and after it places alone
-  PlacesAlone : (given : Given) (places : List (List ℕ)) → Reads given (codes "--" ∷ places) places given
+  PlacesAlone : (given : Given) (places : List (List ℕ))
+      → Reads given (codes "--" ∷ places) places given
   -- a plain word is a place
-  APlace : (given : Given) (word : List ℕ) (words places : List (List ℕ)) (all : Given) → IsPlain word → Reads given words places all → Reads given (word ∷ words) (word ∷ places) all
+  APlace : (given : Given) (word : List ℕ) (words places : List (List ℕ)) (all : Given)
+      → IsPlain word → Reads given words places all → Reads given (word ∷ words) (word ∷ places) all
   -- `--name value`, where the option isn't set yet
-  TwoWords : (given : Given) (setting : Setting) (value : List ℕ) (words places : List (List ℕ)) (all : Given) → word_given setting given ≡ None → IsPlain value → Reads (with_word setting value given) words places all → Reads given ((codes "--" ++ setting_word setting) ∷ value ∷ words) places all
+  TwoWords : (given : Given) (setting : Setting) (value : List ℕ) (words places : List (List ℕ))
+      (all : Given) → word_given setting given ≡ None → IsPlain value
+      → Reads (with_word setting value given) words places all
+      → Reads given ((codes "--" ++ setting_word setting) ∷ value ∷ words) places all
   -- `--name=value`, where the option isn't set yet
-  OneWord : (given : Given) (setting : Setting) (value : List ℕ) (words places : List (List ℕ)) (all : Given) → word_given setting given ≡ None → Reads (with_word setting value given) words places all → Reads given ((codes "--" ++ setting_word setting ++ codes "=" ++ value) ∷ words) places all
+  OneWord : (given : Given) (setting : Setting) (value : List ℕ) (words places : List (List ℕ))
+      (all : Given) → word_given setting given ≡ None
+      → Reads (with_word setting value given) words places all
+      → Reads given ((codes "--" ++ setting_word setting ++ codes "=" ++ value) ∷ words) places all

@@ -110,17 +110,22 @@ pub record AreOptions (given : Given) (options : MeshOptions) : Type 0 where
 
 -- the places and options stand for this task: each number is of its kind
 abbrev pub StandFor : List (List ℕ) → Given → Task → Type 0
-StandFor places given (MeshOf task) = (places ≡ task.geometry ∷ task.rules ∷ task.mesh ∷ task.log ∷ []) × AreOptions given task.options
+StandFor places given (MeshOf task) =
+    (places ≡ task.geometry ∷ task.rules ∷ task.mesh ∷ task.log ∷ [])
+    × AreOptions given task.options
 StandFor places given (GeomOf geometry) = places ≡ geometry ∷ []
 StandFor places given (RulesOf rules) = places ≡ rules ∷ []
 StandFor places given (CheckOf geometry mesh) = places ≡ geometry ∷ mesh ∷ []
-StandFor places given (ViewOf log domain step) = (d : List ℕ) × (s : List ℕ) × (places ≡ log ∷ d ∷ s ∷ []) × IsWholeFrom 1 64 d domain × IsWholeFrom 0 1000000000000 s step
+StandFor places given (ViewOf log domain step) = (d : List ℕ) × (s : List ℕ)
+    × (places ≡ log ∷ d ∷ s ∷ []) × IsWholeFrom 1 64 d domain × IsWholeFrom 0 1000000000000 s step
 StandFor places given (ReplayOf geometry rules log) = places ≡ geometry ∷ rules ∷ log ∷ []
-StandFor places given (GenOf squares parts) = (n : List ℕ) × (m : List ℕ) × (places ≡ n ∷ m ∷ []) × IsWholeFrom 1 8 n squares × IsWholeFrom 1 16 m parts
+StandFor places given (GenOf squares parts) = (n : List ℕ) × (m : List ℕ) × (places ≡ n ∷ m ∷ [])
+    × IsWholeFrom 1 8 n squares × IsWholeFrom 1 16 m parts
 
 -- the words after the verb of the task are in its form and stand for the task
 abbrev pub Calls : List (List ℕ) → Task → Type 0
-Calls words task = (places : List (List ℕ)) × (given : Given) × IsForm (verb_of task) words places given × StandFor places given task
+Calls words task = (places : List (List ℕ)) × (given : Given)
+    × IsForm (verb_of task) words places given × StandFor places given task
 
 -- the mesh and the log would have one name
 abbrev pub HasOneName : Task → Type 0
@@ -134,9 +139,13 @@ HasOneName (GenOf _ _) = ⊥
 
 -- the words after the verb have this fault: they are in no way in its form; they are in it, but stand for no task, since a number isn't of its kind; or they stand for a task with one name for mesh and log
 abbrev pub IsFaultOf : Verb → List (List ℕ) → WordsFault → Type 0
-IsFaultOf verb words Form = (places : List (List ℕ)) (given : Given) → ¬ IsForm verb words places given
-IsFaultOf verb words Value = (places : List (List ℕ)) × (given : Given) × IsForm verb words places given × ((task : Task) → verb_of task ≡ verb → ¬ StandFor places given task)
-IsFaultOf verb words SameName = (task : Task) × (verb_of task ≡ verb) × Calls words task × HasOneName task
+IsFaultOf verb words Form = (places : List (List ℕ)) (given : Given)
+    → ¬ IsForm verb words places given
+IsFaultOf verb words Value = (places : List (List ℕ)) × (given : Given)
+    × IsForm verb words places given
+    × ((task : Task) → verb_of task ≡ verb → ¬ StandFor places given task)
+IsFaultOf verb words SameName = (task : Task) × (verb_of task ≡ verb) × Calls words task
+    × HasOneName task
 IsFaultOf verb words NoVerb = ⊥
 IsFaultOf verb words UnknownVerb = ⊥
 
@@ -147,18 +156,29 @@ IsCommandOf verb words task = (verb_of task ≡ verb) × Calls words task × ¬ 
 -- the words have this fault: there are none; the first is no verb; or it is one, and those after it have the fault
 abbrev pub IsFault : List (List ℕ) → WordsFault → Type 0
 IsFault words NoVerb = words ≡ []
-IsFault words UnknownVerb = (first : List ℕ) × (rest : List (List ℕ)) × (words ≡ first ∷ rest) × ((verb : Verb) → first ≢ verb_word verb)
-IsFault words Form = (verb : Verb) × (rest : List (List ℕ)) × (words ≡ verb_word verb ∷ rest) × IsFaultOf verb rest Form
-IsFault words Value = (verb : Verb) × (rest : List (List ℕ)) × (words ≡ verb_word verb ∷ rest) × IsFaultOf verb rest Value
-IsFault words SameName = (verb : Verb) × (rest : List (List ℕ)) × (words ≡ verb_word verb ∷ rest) × IsFaultOf verb rest SameName
+IsFault words UnknownVerb = (first : List ℕ) × (rest : List (List ℕ)) × (words ≡ first ∷ rest)
+    × ((verb : Verb) → first ≢ verb_word verb)
+IsFault words Form = (verb : Verb) × (rest : List (List ℕ)) × (words ≡ verb_word verb ∷ rest)
+    × IsFaultOf verb rest Form
+IsFault words Value = (verb : Verb) × (rest : List (List ℕ)) × (words ≡ verb_word verb ∷ rest)
+    × IsFaultOf verb rest Value
+IsFault words SameName = (verb : Verb) × (rest : List (List ℕ)) × (words ≡ verb_word verb ∷ rest)
+    × IsFaultOf verb rest SameName
 
 -- the words are a verb and words that stand for the task, with two names for mesh and log
 abbrev pub IsCommand : List (List ℕ) → Task → Type 0
-IsCommand words task = (verb : Verb) × (rest : List (List ℕ)) × (words ≡ verb_word verb ∷ rest) × IsCommandOf verb rest task
+IsCommand words task = (verb : Verb) × (rest : List (List ℕ)) × (words ≡ verb_word verb ∷ rest)
+    × IsCommandOf verb rest task
 
 -- the task of a command
 abbrev pub task_of : Command → Task
-task_of (commands.Mesh files) = MeshOf (record { geometry = files.geometry.now; rules = files.rules.now; mesh = files.mesh.now; log = files.log.now; options = files.options })
+task_of (commands.Mesh files) = MeshOf (record {
+  geometry = files.geometry.now;
+  rules = files.rules.now;
+  mesh = files.mesh.now;
+  log = files.log.now;
+  options = files.options;
+})
 task_of (commands.Geom geometry) = GeomOf geometry.now
 task_of (commands.Rules rules) = RulesOf rules.now
 task_of (commands.Check geometry mesh) = CheckOf geometry.now mesh.now

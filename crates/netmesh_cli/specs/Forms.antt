@@ -38,13 +38,18 @@ abbrev pub InForm : ℕ → Bool → List (List ℕ) → Given → Type 0
 InForm count options places all = (length places ≡ count) × (options ≡ false → all ≡ nothing_given)
 
 abbrev pub IsRead : ℕ → Bool → List (List ℕ) → Option Form → Type 0
-IsRead count options words None = (places : List (List ℕ)) (all : Given) → reading None nothing_given words ≡ Some (places, all) → InForm count options places all → ⊥
-IsRead count options words (Some form) = (places : List (List ℕ)) × (all : Given) × (reading None nothing_given words ≡ Some (places, all)) × InForm count options places all × Has form places all
+IsRead count options words None = (places : List (List ℕ)) (all : Given)
+    → reading None nothing_given words ≡ Some (places, all) → InForm count options places all → ⊥
+IsRead count options words (Some form) = (places : List (List ℕ)) × (all : Given)
+    × (reading None nothing_given words ≡ Some (places, all)) × InForm count options places all
+    × Has form places all
 
 -- there are not so many places, or the words can't be read
 abbrev pub HasNot : ℕ → Option (List (List ℕ) × Given) → Type 0
-HasNot count found = (places : List (List ℕ)) (all : Given) → length places ≡ count → found ≢ Some (places, all)
+HasNot count found = (places : List (List ℕ)) (all : Given) → length places ≡ count
+    → found ≢ Some (places, all)
 
 -- there are not so many places without an option, or the words can't be read
 abbrev pub HasNotAlone : ℕ → Option (List (List ℕ) × Given) → Type 0
-HasNotAlone count found = (places : List (List ℕ)) → length places ≡ count → found ≢ Some (places, nothing_given)
+HasNotAlone count found = (places : List (List ℕ)) → length places ≡ count
+    → found ≢ Some (places, nothing_given)

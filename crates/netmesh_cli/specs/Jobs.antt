@@ -7,26 +7,28 @@
 -- EndsSo        the outcomes that it may have, where it isn't refused
 -- Made          what is made: the files to be put, the answer, and the outcome
 -- Makes         this is made of the files that are held
-use Rattle.std.specs.Prelude.{◌≡◌, ℕ, List, [], ◌∷◌, map}
+use Rattle.std.specs.Prelude.{◌≡◌, ℕ, ◌≤◌, List, [], ◌∷◌, map, IfSome}
 use Rattle.folder_io.specs.Names.{Files}
 use Rattle.in2d_reader.specs.declared.geometry.RawGeometry.{RawGeometry}
 use Rattle.rule_reader.specs.declared.rule.Rule.{Rule}
 use Rattle.geom_check.specs.Placed.{IsReadableIfAny}
 use Rattle.geom_check.specs.Geometry.{PlanarMap}
+use Rattle.mesh_run.specs.declared.WholeRun.{WholeRun}
 use Rattle.netmesh_cli.specs.declared.outcome.Outcome.{Outcome}
 use Rattle.netmesh_cli.specs.declared.outcome.Outcome.TheVariants.{Done, Stuck, Stopped, Shown}
 use Rattle.netmesh_cli.specs.declared.made.Put.{Put as PutValue}
 use Rattle.netmesh_cli.specs.declared.made.Made.{Made as MadeValue}
 use Rattle.netmesh_cli.specs.declared.command.MeshCall.{MeshCall}
+use Rattle.netmesh_cli.specs.declared.command.MeshOptions.{MeshOptions}
 use Rattle.netmesh_cli.specs.declared.asked.Asked.{Asked}
-use Rattle.netmesh_cli.specs.declared.asked.Asked.TheVariants.{Mesh, Geom}
-use Rattle.netmesh_cli.specs.Commands.{Task, MeshTask, MeshOf, GeomOf}
-use Rattle.netmesh_cli.specs.Words.{sizing}
+use Rattle.netmesh_cli.specs.declared.asked.Asked.TheVariants.{Mesh, Geom, Rules}
+use Rattle.netmesh_cli.specs.Commands.{Task, MeshTask, MeshOf, GeomOf, RulesOf}
 use Rattle.netmesh_cli.specs.Accepted.{IsGeometryText, AreRules}
 use Rattle.netmesh_cli.specs.Causes.{HoldsWithin}
-use Rattle.netmesh_cli.specs.Taking.{Taken, geometry_at, ruleless_file_at}
-use Rattle.netmesh_cli.specs.Run.{MeshInput, run_of, log_of, mesh_of, line_of, outcome_of, IsCovered}
+use Rattle.netmesh_cli.specs.Taking.{Taken, geometry_at, rule_file_at}
+use Rattle.netmesh_cli.specs.Run.{MeshInput, IsRunOf, log_of, mesh_of, line_of, outcome_of, IsExactRun}
 use Rattle.netmesh_cli.specs.Shown.{shown_text}
+use Rattle.netmesh_cli.specs.Listed.{IsListing}
 
 -- ---- what is asked for
 
@@ -34,11 +36,13 @@ use Rattle.netmesh_cli.specs.Shown.{shown_text}
 pub data Job : Type 0 where
   MeshJob : MeshTask → Job
   GeomJob : List ℕ → Job
+  RulesJob : List ℕ → Job
 
 -- as the words of a call ask for it
 abbrev pub task_of_job : Job → Task
 task_of_job (MeshJob task) = MeshOf task
 task_of_job (GeomJob geometry) = GeomOf geometry
+task_of_job (RulesJob rules) = RulesOf rules
 
 -- as the program reads it off the words
 abbrev pub task_of_mesh : MeshCall → MeshTask
@@ -53,27 +57,32 @@ task_of_mesh call = record {
 abbrev pub job_of : Asked → Job
 job_of (Mesh call) = MeshJob (task_of_mesh call)
 job_of (Geom geometry) = GeomJob geometry.now
+job_of (Rules rules) = RulesJob rules.now
 
--- of the options of `mesh` the greatest size and the grading are built so far
-abbrev pub IsBuilt : Job → Type 0
-IsBuilt (MeshJob task) = task.options ≡ sizing task.options.maxh task.options.grading
-IsBuilt (GeomJob geometry) = Unit {0}
+-- the options of `mesh` are in the ranges that words may give them
+pub record AreInRange (options : MeshOptions) : Type 0 where
+  pub maxh : IsReadableIfAny options.maxh
+  pub grading : IfSome options.grading (λ n. n ≤ 10000)
+  pub class_least : IfSome options.class (λ n. 1 ≤ n)
+  pub class_greatest : IfSome options.class (λ n. n ≤ 16)
 
--- a greatest size that is given is in the ranges of a decimal that a word writes
-abbrev pub HasReadableSize : Job → Type 0
-HasReadableSize (MeshJob task) = IsReadableIfAny task.options.maxh
-HasReadableSize (GeomJob geometry) = Unit {0}
+abbrev pub IsInRange : Job → Type 0
+IsInRange (MeshJob task) = AreInRange task.options
+IsInRange (GeomJob geometry) = Unit {0}
+IsInRange (RulesJob rules) = Unit {0}
 
 -- ---- what is taken and put
 
 abbrev pub takes_of : Job → List Taken
-takes_of (MeshJob task) = geometry_at task.geometry ∷ ruleless_file_at task.rules ∷ []
+takes_of (MeshJob task) = geometry_at task.geometry ∷ rule_file_at task.rules ∷ []
 takes_of (GeomJob geometry) = geometry_at geometry ∷ []
+takes_of (RulesJob rules) = rule_file_at rules ∷ []
 
 -- the log is put before the mesh
 abbrev pub puts_of : Job → List (List ℕ)
 puts_of (MeshJob task) = task.log ∷ task.mesh ∷ []
 puts_of (GeomJob geometry) = []
+puts_of (RulesJob rules) = []
 
 abbrev pub IsRunOutcome : Outcome → Type 0
 IsRunOutcome Done = Unit {0}
@@ -88,6 +97,7 @@ IsShown _ = ⊥
 abbrev pub EndsSo : Job → Outcome → Type 0
 EndsSo (MeshJob task) = IsRunOutcome
 EndsSo (GeomJob geometry) = IsShown
+EndsSo (RulesJob rules) = IsShown
 
 -- ---- what is made
 
@@ -107,7 +117,11 @@ abbrev pub put_of : PutValue → Put
 put_of put = record { name = put.name.now; bytes = put.bytes.items }
 
 abbrev pub made_of : MadeValue → Made
-made_of made = record { puts = map put_of made.puts.items; answer = made.answer.items; outcome = made.outcome }
+made_of made = record {
+  puts = map put_of made.puts.items;
+  answer = made.answer.items;
+  outcome = made.outcome;
+}
 
 abbrev pub names_of_puts : List Put → List (List ℕ)
 names_of_puts puts = map (λ put. put.name) puts
@@ -131,14 +145,15 @@ pub record IsMeshed (task : MeshTask) (files : Files) (made : Made) : Type 0 whe
   pub raw : RawGeometry
   pub geometry : HoldsGeometry files task.geometry raw input.geometry
   pub rules : HoldsRules files task.rules input.rules
-  pub ruleless : input.rules ≡ []
   pub options : input.options ≡ task.options
+  pub run : WholeRun
+  pub is_run : IsRunOf input run
+  pub exact : IsExactRun input run
   pub puts : made.puts
-      ≡ record { name = task.log; bytes = log_of input } ∷ record { name = task.mesh; bytes = mesh_of input } ∷ []
-  pub answer : made.answer ≡ line_of input
-  pub outcome : made.outcome ≡ outcome_of (run_of input).end
-  -- off the segments the fronts of the run wind as the boundaries do, each round a place once or not at all
-  pub covered : IsCovered input
+      ≡ record { name = task.log; bytes = log_of run }
+      ∷ record { name = task.mesh; bytes = mesh_of input run } ∷ []
+  pub answer : made.answer ≡ line_of input run
+  pub outcome : made.outcome ≡ outcome_of run.end
 
 -- `geom`: the geometry that is held is accepted, and its text is written
 pub record IsDrawn (name : List ℕ) (files : Files) (made : Made) : Type 0 where
@@ -149,7 +164,16 @@ pub record IsDrawn (name : List ℕ) (files : Files) (made : Made) : Type 0 wher
   pub answer : made.answer ≡ shown_text raw geometry
   pub outcome : made.outcome ≡ Shown
 
+-- `rules`: the rules that are held are accepted, and which of them are live and their text are written
+pub record AreListed (name : List ℕ) (files : Files) (made : Made) : Type 0 where
+  pub rules : List Rule
+  pub held : HoldsRules files name rules
+  pub puts : made.puts ≡ []
+  pub answer : IsListing rules made.answer
+  pub outcome : made.outcome ≡ Shown
+
 -- what a verb makes of the files that are held
 abbrev pub Makes : Job → Files → Made → Type 0
 Makes (MeshJob task) files made = IsMeshed task files made
 Makes (GeomJob geometry) files made = IsDrawn geometry files made
+Makes (RulesJob rules) files made = AreListed rules files made

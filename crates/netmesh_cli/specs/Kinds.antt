@@ -5,27 +5,27 @@
 -- Accepts      the bytes are accepted
 -- Rejects      they aren't, and this is the refusal
 -- CanReject    there is such a refusal of a file of this kind
-use Rattle.std.specs.Prelude.{◌≡◌, ℕ, List, []}
+use Rattle.std.specs.Prelude.{ℕ, List}
 use Rattle.netmesh_cli.specs.declared.outcome.Refusal.{Refusal}
-use Rattle.netmesh_cli.specs.declared.outcome.Refusal.TheVariants.{In2d, Geometry, Rules, NotYet}
-use Rattle.netmesh_cli.specs.Accepted.{HasGeometry, IsTextFault, IsGeometryFault, AreRules, HasRules, IsRulesFault}
+use Rattle.netmesh_cli.specs.declared.outcome.Refusal.TheVariants.{In2d, Geometry, Rules}
+use Rattle.netmesh_cli.specs.Accepted.{HasGeometry, IsTextFault, IsGeometryFault, HasRules, IsRulesFault}
 
 -- what a file is taken for
 pub data Kind : Type 0 where
   -- the text of an accepted geometry
   AGeometry : Kind
-  -- a rule file that holds no rule; so far `mesh` takes no other
-  ARulelessFile : Kind
+  -- a rule file
+  ARuleFile : Kind
 
 -- how many bytes it may have
 abbrev pub limit_of : Kind → ℕ
 limit_of AGeometry = 1048576
-limit_of ARulelessFile = 1048576
+limit_of ARuleFile = 1048576
 
 -- the bytes are accepted as a file of this kind
 abbrev pub Accepts : Kind → List ℕ → Type 0
 Accepts AGeometry bytes = HasGeometry bytes
-Accepts ARulelessFile bytes = AreRules bytes []
+Accepts ARuleFile bytes = HasRules bytes
 
 -- the bytes are the text of no geometry, or of one that isn't accepted
 abbrev pub GeometryRejects : List ℕ → Refusal → Type 0
@@ -33,16 +33,15 @@ GeometryRejects bytes (In2d fault) = IsTextFault bytes fault
 GeometryRejects bytes (Geometry fault) = IsGeometryFault bytes fault
 GeometryRejects bytes _ = ⊥
 
--- the bytes are no rule file, or one that holds a rule
-abbrev pub RulelessRejects : List ℕ → Refusal → Type 0
-RulelessRejects bytes (Rules fault) = IsRulesFault bytes fault
-RulelessRejects bytes (NotYet part) = (part ≡ 3) × HasRules bytes
-RulelessRejects bytes _ = ⊥
+-- the bytes are no rule file
+abbrev pub RulesRejects : List ℕ → Refusal → Type 0
+RulesRejects bytes (Rules fault) = IsRulesFault bytes fault
+RulesRejects bytes _ = ⊥
 
 -- the bytes are refused so as a file of this kind
 abbrev pub Rejects : Kind → List ℕ → Refusal → Type 0
 Rejects AGeometry = GeometryRejects
-Rejects ARulelessFile = RulelessRejects
+Rejects ARuleFile = RulesRejects
 
 -- a refusal of a geometry
 abbrev pub IsOfGeometry : Refusal → Type 0
@@ -50,12 +49,12 @@ IsOfGeometry (In2d fault) = Unit {0}
 IsOfGeometry (Geometry fault) = Unit {0}
 IsOfGeometry _ = ⊥
 
-abbrev pub IsOfRulelessFile : Refusal → Type 0
-IsOfRulelessFile (Rules fault) = Unit {0}
-IsOfRulelessFile (NotYet part) = part ≡ 3
-IsOfRulelessFile _ = ⊥
+-- a refusal of a rule file
+abbrev pub IsOfRules : Refusal → Type 0
+IsOfRules (Rules fault) = Unit {0}
+IsOfRules _ = ⊥
 
 -- a file of this kind may be refused so
 abbrev pub CanReject : Kind → Refusal → Type 0
 CanReject AGeometry = IsOfGeometry
-CanReject ARulelessFile = IsOfRulelessFile
+CanReject ARuleFile = IsOfRules

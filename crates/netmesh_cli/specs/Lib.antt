@@ -12,6 +12,7 @@ pub mod Accepted
 pub mod BytesRefused
 pub mod Run
 pub mod Shown
+pub mod Listed
 -- what is taken and put, verb by verb
 pub mod Causes
 pub mod Kinds

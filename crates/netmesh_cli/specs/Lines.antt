@@ -46,8 +46,10 @@ geometry_line (SamePlace i j) = numbers_line (codes "geometry") (pos 3 ∷ pos i
 geometry_line (SameSides segment) = numbers_line (codes "geometry") (pos 4 ∷ pos segment ∷ [])
 geometry_line (NoLength segment) = numbers_line (codes "geometry") (pos 5 ∷ pos segment ∷ [])
 geometry_line (Meet i j) = numbers_line (codes "geometry") (pos 6 ∷ pos i ∷ pos j ∷ [])
-geometry_line (OpenAt point domain) = numbers_line (codes "geometry") (pos 7 ∷ pos point ∷ pos domain ∷ [])
-geometry_line (Side domain at) = numbers_line (codes "geometry") (pos 8 ∷ pos domain ∷ at.x ∷ at.y ∷ at.k ∷ [])
+geometry_line (OpenAt point domain) =
+    numbers_line (codes "geometry") (pos 7 ∷ pos point ∷ pos domain ∷ [])
+geometry_line (Side domain at) =
+    numbers_line (codes "geometry") (pos 8 ∷ pos domain ∷ at.x ∷ at.y ∷ at.k ∷ [])
 geometry_line (Overlap at) = numbers_line (codes "geometry") (pos 9 ∷ at.x ∷ at.y ∷ at.k ∷ [])
 geometry_line NoMemoryHere = []
 
@@ -55,8 +57,10 @@ geometry_line NoMemoryHere = []
 abbrev pub rules_line : RuleRefusal → List ℕ
 rules_line (fault_of_rules.Syntax word) = numbers_line (codes "rules") (pos 1 ∷ pos word ∷ [])
 rules_line (fault_of_rules.Number word) = numbers_line (codes "rules") (pos 2 ∷ pos word ∷ [])
-rules_line (fault_of_rules.TooMany rule what) = numbers_line (codes "rules") (pos 3 ∷ pos rule ∷ pos what ∷ [])
-rules_line (fault_of_rules.BadIndex rule word) = numbers_line (codes "rules") (pos 4 ∷ pos rule ∷ pos word ∷ [])
+rules_line (fault_of_rules.TooMany rule what) =
+    numbers_line (codes "rules") (pos 3 ∷ pos rule ∷ pos what ∷ [])
+rules_line (fault_of_rules.BadIndex rule word) =
+    numbers_line (codes "rules") (pos 4 ∷ pos rule ∷ pos word ∷ [])
 rules_line (fault_of_rules.TooLoose rule) = numbers_line (codes "rules") (pos 5 ∷ pos rule ∷ [])
 rules_line fault_of_rules.Memory = []
 
@@ -66,7 +70,8 @@ refusal_line (Words fault) = numbers_line (codes "words") (pos (words_number fau
 refusal_line (In2d fault) = in2d_line fault
 refusal_line (Geometry fault) = geometry_line fault
 refusal_line (Rules fault) = rules_line fault
-refusal_line (Folder name fault) = codes "refused folder " ++ decimal fault ++ codes " " ++ name ++ codes "\n"
+refusal_line (Folder name fault) =
+    codes "refused folder " ++ decimal fault ++ codes " " ++ name ++ codes "\n"
 refusal_line Out = []
 refusal_line Memory = []
 refusal_line (NotYet part) = codes "refused notyet " ++ decimal part ++ codes "\n"

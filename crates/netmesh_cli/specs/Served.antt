@@ -15,8 +15,8 @@ use Rattle.folder_io.specs.Names.{Files, Holds, held_at, SameBut}
 use Rattle.folder_io.specs.States.{FolderState, SinkState, FailedFor}
 use Rattle.netmesh_cli.specs.declared.outcome.Outcome.{Outcome}
 use Rattle.netmesh_cli.specs.declared.outcome.Refusal.{Refusal}
-use Rattle.netmesh_cli.specs.declared.outcome.Refusal.TheVariants.{Words, In2d, Geometry, Rules, Folder, Out, Memory, NotYet}
-use Rattle.netmesh_cli.specs.Causes.{PutRefused, IsUntaken, AnswerRefused}
+use Rattle.netmesh_cli.specs.declared.outcome.Refusal.TheVariants.{Words, Folder, Out, Memory}
+use Rattle.netmesh_cli.specs.Causes.{PutRefused, AnswerRefused}
 use Rattle.netmesh_cli.specs.Taking.{AreAccepted, TakesRefused, names_taken}
 use Rattle.netmesh_cli.specs.Jobs.{Job, takes_of, puts_of, Put, Made, Makes, names_of_puts}
 
@@ -47,7 +47,8 @@ pub record IsServed (job : Job) (outcome : Outcome) (before now : Option (List �
 
 -- an answer of the verb on the files that are held, where they are told
 abbrev pub IsAnswer : Job → Option Files → List ℕ → Type 0
-IsAnswer job held answer = Told held (λ files. (made : Made) × Makes job files made × (answer ≡ made.answer))
+IsAnswer job held answer = Told held
+    (λ files. (made : Made) × Makes job files made × (answer ≡ made.answer))
 
 -- ---- how far a refused call came
 
@@ -98,7 +99,8 @@ pub data Course (job : Job) (before now : FolderState) (out out_now : SinkState)
   at_put : {r : Refusal} → (name : List ℕ) → IsListed name (puts_of job)
       → ToldBoth before.held now.held (StopsAtPut job name) → PutRefused name before now r
       → Course job before now out out_now r
-  at_answer : {r : Refusal} → ToldBoth before.held now.held (HasAll job) → AnswerRefused out out_now r
+  at_answer : {r : Refusal} → ToldBoth before.held now.held (HasAll job)
+      → AnswerRefused out out_now r
       → Course job before now out out_now r
 
 -- ---- what a refusal means
@@ -150,6 +152,7 @@ pub record HasPutInOrder (job : Job) (old new : Files) : Type 0 where
 -- what is held after any call: only the names that are put may hold anything new, only where all files that
 -- are taken are accepted, and a file only where those before it are put
 pub record Keeps (job : Job) (old new : Files) : Type 0 where
-  pub others : (other : List ℕ) → ¬ IsListed other (puts_of job) → held_at new other ≡ held_at old other
+  pub others : (other : List ℕ) → ¬ IsListed other (puts_of job)
+      → held_at new other ≡ held_at old other
   pub unaccepted : ¬ AreAccepted (takes_of job) old → new ≡ old
   pub in_order : (new ≡ old) ⊎ HasPutInOrder job old new

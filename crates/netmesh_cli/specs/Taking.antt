@@ -16,19 +16,19 @@ use Rattle.folder_io.specs.States.{FolderState}
 use Rattle.netmesh_cli.specs.declared.outcome.Refusal.{Refusal}
 use Rattle.netmesh_cli.specs.declared.outcome.Refusal.TheVariants.{Folder, Memory}
 use Rattle.netmesh_cli.specs.Causes.{HoldsWithin, FolderFault}
-use Rattle.netmesh_cli.specs.Kinds.{Kind, AGeometry, ARulelessFile, limit_of, Accepts, Rejects, CanReject}
+use Rattle.netmesh_cli.specs.Kinds.{Kind, AGeometry, ARuleFile, limit_of, Accepts, Rejects, CanReject}
 
 -- a file that is taken: its name, and what it is taken for
 pub record Taken : Type 0 where
   pub name : List ℕ
   pub kind : Kind
 
--- a file that is taken for a geometry, or for a rule file without a rule
+-- a file that is taken for a geometry, or for a rule file
 abbrev pub geometry_at : List ℕ → Taken
 geometry_at name = record { name = name; kind = AGeometry }
 
-abbrev pub ruleless_file_at : List ℕ → Taken
-ruleless_file_at name = record { name = name; kind = ARulelessFile }
+abbrev pub rule_file_at : List ℕ → Taken
+rule_file_at name = record { name = name; kind = ARuleFile }
 
 abbrev pub names_taken : List Taken → List (List ℕ)
 names_taken takes = map (λ file. file.name) takes
@@ -77,4 +77,5 @@ TakeRefused before now refusal file =
 -- why the takes of some files are refused: the take of one is, and all before it are accepted
 abbrev pub TakesRefused : FolderState → FolderState → Refusal → List Taken → Type 0
 TakesRefused before now refusal takes =
-    FirstOf (λ file. Told before.held (λ files. HoldsAccepted files file)) (TakeRefused before now refusal) takes
+    FirstOf (λ file. Told before.held (λ files. HoldsAccepted files file))
+    (TakeRefused before now refusal) takes

@@ -5,22 +5,23 @@
 --         tells what it holds, `Exactly` says the other way which answers may come of it.
 -- Mesh:   `HoldsMesh` is the whole of a call of `mesh` that wasn't refused, in one place.
 -- Lines:  a refusal writes its line (`WritesLine`).
-use Rattle.std.specs.Prelude.{◌≡◌, ◌⊎◌, ℕ, List, [], ◌∷◌, Option, ◌++◌}
+use Rattle.std.specs.Prelude.{◌≡◌, ◌⊎◌, ℕ, List, [], Option, ◌++◌}
 use Rattle.std.specs.FinMap as finite
-use Rattle.folder_io.specs.Causes.{Rose, Told, ToldBoth, GrowsByPrefix}
+use Rattle.folder_io.specs.Causes.{ToldBoth, GrowsByPrefix}
 use Rattle.folder_io.specs.Names.{Files}
 use Rattle.folder_io.specs.States.{FolderState, SinkState}
 use Rattle.in2d_reader.specs.declared.geometry.RawGeometry.{RawGeometry}
+use Rattle.mesh_run.specs.declared.WholeRun.{WholeRun}
 use Rattle.netmesh_cli.specs.declared.outcome.Outcome.{Outcome}
-use Rattle.netmesh_cli.specs.declared.outcome.Outcome.TheVariants.{Done, Stuck, Stopped, Good, Bad, Shown, Refused}
+use Rattle.netmesh_cli.specs.declared.outcome.Outcome.TheVariants.{Refused}
 use Rattle.netmesh_cli.specs.declared.outcome.Refusal.{Refusal}
-use Rattle.netmesh_cli.specs.declared.outcome.Refusal.TheVariants.{Words, In2d, Geometry, Rules, Folder, Out, Memory, NotYet}
+use Rattle.netmesh_cli.specs.declared.outcome.Refusal.TheVariants.{Words, Folder, Out, Memory, NotYet}
 use Rattle.netmesh_cli.specs.declared.words_fault.WordsFault.{WordsFault}
 use Rattle.netmesh_cli.specs.Commands.{MeshTask, IsFault}
 use Rattle.netmesh_cli.specs.Words.{AskForUnbuilt}
 use Rattle.netmesh_cli.specs.Causes.{IsMemory, IsUntaken}
 use Rattle.netmesh_cli.specs.Taking.{AreAccepted, FirstRefused}
-use Rattle.netmesh_cli.specs.Run.{MeshInput, run_of, log_of, mesh_of, line_of, outcome_of, IsCovered}
+use Rattle.netmesh_cli.specs.Run.{MeshInput, IsRunOf, log_of, mesh_of, line_of, outcome_of, IsExactRun}
 use Rattle.netmesh_cli.specs.Jobs.{Job, takes_of, puts_of, EndsSo, HoldsGeometry, HoldsRules}
 use Rattle.netmesh_cli.specs.Served.{IsServed, IsAnswer, RefusalCause, RefusalStands, Keeps}
 use Rattle.netmesh_cli.specs.Lines.{refusal_line}
@@ -137,11 +138,13 @@ pub record Answers (job : Job) (outcome : Outcome) (before now : FolderState) (o
 pub record Exactly (job : Job) (outcome : Outcome) (failed untaken : Type 0) (files : Files) : Type 0 where
   -- files that aren't all accepted: the first that isn't is refused, unless the folder failed before
   pub unaccepted : ¬ AreAccepted (takes_of job) files
-      → IsRefusedAnd outcome (λ told. FirstRefused files told (takes_of job) ⊎ IsFailureOrMemory told)
+      → IsRefusedAnd outcome (λ told.
+      FirstRefused files told (takes_of job) ⊎ IsFailureOrMemory told)
   pub refused : (refusal : Refusal) → FirstRefused files refusal (takes_of job)
       → IsRefusedAnd outcome (λ told. (told ≡ refusal) ⊎ IsFailureOrMemory told)
   -- accepted files, and no failure of the folder or the sink
-  pub complete : AreAccepted (takes_of job) files → ¬ failed → ¬ untaken → IsServedOr outcome IsMemory
+  pub complete : AreAccepted (takes_of job) files → ¬ failed → ¬ untaken
+      → IsServedOr outcome IsMemory
 
 -- ---- mesh
 
@@ -152,14 +155,18 @@ pub record HoldsMesh (task : MeshTask) (outcome : Outcome) (written now_written 
   pub raw : RawGeometry
   pub geometry : HoldsGeometry old task.geometry raw input.geometry
   pub rules : HoldsRules old task.rules input.rules
-  pub ruleless : input.rules ≡ []
   pub options : input.options ≡ task.options
-  -- LOG holds the log of their run and MESH its mesh, and every other name holds what it held
-  pub files : new ≡ finite.insert (finite.insert old task.log (log_of input)) task.mesh (mesh_of input)
+  -- this is their run: the applications are exactly the next ones
+  pub run : WholeRun
+  pub is_run : IsRunOf input run
+  -- LOG holds its log and MESH its mesh, and every other name holds what it held
+  pub files : new
+      ≡ finite.insert (finite.insert old task.log (log_of run)) task.mesh (mesh_of input run)
   -- its summary line is written
-  pub line : ToldBoth written now_written (λ before now. now ≡ before ++ line_of input)
+  pub line : ToldBoth written now_written (λ before now. now ≡ before ++ line_of input run)
+  -- after each application and in the written files elements and front add up to every domain, off all edges; the
+  -- applications are at most the doubled area in number; the end is Done exactly with empty fronts, and otherwise
+  -- Stuck, where nothing applies
+  pub exact : IsExactRun input run
   -- the outcome is that of its end
-  pub ended : outcome ≡ outcome_of (run_of input).end
-  -- at each rational point off all segments the front that is left of a domain winds as the domain's boundary
-  -- does, once or not at all, and the front of one domain at most winds once
-  pub covered : IsCovered input
+  pub ended : outcome ≡ outcome_of run.end

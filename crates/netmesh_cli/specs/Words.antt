@@ -1,21 +1,14 @@
 -- What is built of what the words of a call ask for.
-use Rattle.std.specs.Prelude.{◌≡◌, ◌≢◌, ℕ, List, Option, None}
-use Rattle.word_scan.specs.declared.decimals.Dec.{Dec}
-use Rattle.netmesh_cli.specs.declared.command.MeshOptions.{MeshOptions}
+use Rattle.std.specs.Prelude.{◌≡◌, ℕ, List}
 use Rattle.netmesh_cli.specs.declared.outcome.Refusal.{Refusal}
 use Rattle.netmesh_cli.specs.declared.outcome.Refusal.TheVariants.{Words, Memory, NotYet}
 use Rattle.netmesh_cli.specs.Commands.{Task, MeshOf, GeomOf, RulesOf, CheckOf, ViewOf, ReplayOf, GenOf, IsCommand, IsFault}
 
--- `mesh` is given this greatest size and this grading, or none, and no other option
-abbrev pub sizing : Option Dec → Option ℕ → MeshOptions
-sizing maxh grading = record { maxh = maxh; grading = grading; class = None; steps = None }
-
--- what is not built yet: `mesh` with another option than the greatest size and the grading, and the verbs but
--- `mesh` and `geom`
+-- what is not built yet: the verbs but `mesh`, `geom` and `rules`
 abbrev pub IsUnbuilt : Task → Type 0
-IsUnbuilt (MeshOf task) = task.options ≢ sizing task.options.maxh task.options.grading
+IsUnbuilt (MeshOf _) = ⊥
 IsUnbuilt (GeomOf _) = ⊥
-IsUnbuilt (RulesOf _) = Unit {0}
+IsUnbuilt (RulesOf _) = ⊥
 IsUnbuilt (CheckOf _ _) = Unit {0}
 IsUnbuilt (ViewOf _ _ _) = Unit {0}
 IsUnbuilt (ReplayOf _ _ _) = Unit {0}

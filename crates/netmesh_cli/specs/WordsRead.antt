@@ -13,7 +13,12 @@ use Rattle.netmesh_cli.specs.CommandLine.{setting_word, Given, word_given, with_
 
 -- the words that options are set to
 abbrev pub given_of : Settings → Given
-given_of settings = record { maxh = option_copied settings.maxh; grading = option_copied settings.grading; class = option_copied settings.class; steps = option_copied settings.steps }
+given_of settings = record {
+  maxh = option_copied settings.maxh;
+  grading = option_copied settings.grading;
+  class = option_copied settings.class;
+  steps = option_copied settings.steps;
+}
 
 -- what a word may be: a plain one, `--`, an option before its value word, an option with its value, or none of these
 pub data WordSort : Type 0 where
@@ -66,7 +71,9 @@ setting_or word setting next = if bytes_eq word (setting_word setting) then Some
 
 -- the option that is called so
 abbrev pub setting_of : List ℕ → Option Setting
-setting_of word = setting_or word Maxh (setting_or word Grading (setting_or word Class (setting_or word Steps None)))
+setting_of word =
+    setting_or word Maxh (setting_or word Grading
+    (setting_or word Class (setting_or word Steps None)))
 
 -- the options with this one set, where nothing is its value so far
 abbrev pub set_first : Setting → List ℕ → Given → Option (List ℕ) → Option Given
@@ -75,21 +82,26 @@ set_first setting word given (Some before) = None
 
 -- the options with the one called so set to the word, where it is one and isn't set yet
 abbrev pub set_called : List ℕ → List ℕ → Given → Option Given
-set_called name word given = option_and_then (λ setting. set_first setting word given (word_given setting given)) (setting_of name)
+set_called name word given =
+    option_and_then (λ setting. set_first setting word given (word_given setting given))
+    (setting_of name)
 
 abbrev pub with_place : List ℕ → Option (List (List ℕ) × Given) → Option (List (List ℕ) × Given)
 with_place word found = option_map (λ (places, all). (word ∷ places, all)) found
 
 -- what is read from a word of this sort on, and how the words behind it are read where an option waits for its value or none does
-abbrev pub read_word : WordSort → Given → List ℕ → List (List ℕ) → (Option (List ℕ) → Given → Option (List (List ℕ) × Given)) → Option (List (List ℕ) × Given)
+abbrev pub read_word : WordSort → Given → List ℕ → List (List ℕ)
+    → (Option (List ℕ) → Given → Option (List (List ℕ) × Given)) → Option (List (List ℕ) × Given)
 read_word PlainWord given word words behind = with_place word (behind None given)
 read_word Dashes given word words behind = Some (words, given)
 read_word (Before name) given word words behind = behind (Some name) given
-read_word (With name value) given word words behind = option_and_then (behind None) (set_called name value given)
+read_word (With name value) given word words behind =
+    option_and_then (behind None) (set_called name value given)
 read_word Other given word words behind = None
 
 -- what is read where an option waits for this word
-abbrev pub read_value : Bool → List ℕ → Given → List ℕ → (Given → Option (List (List ℕ) × Given)) → Option (List (List ℕ) × Given)
+abbrev pub read_value : Bool → List ℕ → Given → List ℕ → (Given → Option (List (List ℕ) × Given))
+    → Option (List (List ℕ) × Given)
 read_value true name given word behind = option_and_then behind (set_called name word given)
 read_value false name given word behind = None
 
@@ -97,5 +109,7 @@ read_value false name given word behind = None
 unfoldable pub reading : Option (List ℕ) → Given → List (List ℕ) → Option (List (List ℕ) × Given)
 reading None given [] = Some ([], given)
 reading (Some name) given [] = None
-reading None given (word ∷ words) = read_word (word_sort word) given word words (λ waits now. reading waits now words)
-reading (Some name) given (word ∷ words) = read_value (is_plain_sort (word_sort word)) name given word (λ now. reading None now words)
+reading None given (word ∷ words) =
+    read_word (word_sort word) given word words (λ waits now. reading waits now words)
+reading (Some name) given (word ∷ words) =
+    read_value (is_plain_sort (word_sort word)) name given word (λ now. reading None now words)

@@ -38,7 +38,8 @@ pub fn take<F: Folder>(
     ensures held { (F.state folder.new).held ≡ (F.state folder.old).held }
     ensures bytes { IfOk result (λ v. Told (F.state folder.old).held
         (λ files. HoldsWithin limit files name.now v.items)) }
-    ensures refused { IfErr result (FetchRefused limit name.now (F.state folder.old) (F.state folder.new)) }
+    ensures refused { IfErr result
+        (FetchRefused limit name.now (F.state folder.old) (F.state folder.new)) }
     ensures rises { (F.state folder.old).faults ≤ (F.state folder.new).faults }
 {
     match folder.take(alloc, name, limit) {

@@ -122,9 +122,11 @@ fn command_of<'a>(alloc: Global, verb: Verb) -> Result<Command<'a>, AllocError>
 /// What was found.
 fn form_of<'a>(matches: &ArgMatches<'a>) -> Form<'a>
     ensures first { option_copied result.first ≡ first_value (found_of matches.now) (place_word 1) }
-    ensures second { option_copied result.second ≡ first_value (found_of matches.now) (place_word 2) }
+    ensures second { option_copied result.second
+        ≡ first_value (found_of matches.now) (place_word 2) }
     ensures third { option_copied result.third ≡ first_value (found_of matches.now) (place_word 3) }
-    ensures fourth { option_copied result.fourth ≡ first_value (found_of matches.now) (place_word 4) }
+    ensures fourth { option_copied result.fourth
+        ≡ first_value (found_of matches.now) (place_word 4) }
     ensures given { given_of result.settings ≡ record {
       maxh = first_value (found_of matches.now) (codes "maxh");
       grading = first_value (found_of matches.now) (codes "grading");

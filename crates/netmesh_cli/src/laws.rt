@@ -14,8 +14,10 @@ pub fn one_reading()
 
 /// Words ask for one task at most, have one fault at most, and never both.
 pub fn one_answer()
-    ensures task { (words : List (List ℕ)) (t u : Task) → IsCommand words t → IsCommand words u → t ≡ u }
-    ensures fault { (words : List (List ℕ)) (f g : WordsFault) → IsFault words f → IsFault words g → f ≡ g }
+    ensures task { (words : List (List ℕ)) (t u : Task) → IsCommand words t
+        → IsCommand words u → t ≡ u }
+    ensures fault { (words : List (List ℕ)) (f g : WordsFault) → IsFault words f
+        → IsFault words g → f ≡ g }
     ensures never_both { (words : List (List ℕ)) (t : Task) (f : WordsFault)
         → IsCommand words t → IsFault words f → ⊥ }
 {}

@@ -1,7 +1,7 @@
 //! Which files and which answer come of the files that the words name, and if none, why?
 //!
-//! So far each accepted geometry is shown by `geom`, and meshed by `mesh`, by a rule file without a rule: its
-//! segments are cut by the sizes that it gives.
+//! Each accepted geometry is shown by `geom`, and meshed by `mesh` by the rules of a file, which `rules`
+//! shows. The other verbs are not built yet.
 //!
 //! 1. The words name the files. Each file is taken and read before the next is taken.
 //! 2. What is put and written is made of values, between the last take and the first put: so it is a
@@ -34,6 +34,9 @@ mod made;
 mod mesh;
 mod outcome;
 mod rule_file;
+pub mod rule_laws;
+mod rules;
+mod run;
 mod said;
 mod serve;
 mod settings;

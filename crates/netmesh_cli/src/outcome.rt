@@ -48,7 +48,7 @@ pub enum Refusal {
     Out,
     /// There was no memory left.
     Memory,
-    /// A form that is not built yet: 1 a verb or an option, 3 rules.
+    /// A form that is not built yet: 1 a verb.
     NotYet { part: u32 },
 }
 

@@ -2,7 +2,7 @@
 
 ghost use Rattle.std.specs.Prelude.{◌≡◌, ◌≤◌, [], map, IfOk, IfErr};
 ghost use Rattle.folder_io.specs.Causes.{Told, ToldBoth};
-ghost use Rattle.netmesh_cli.specs.Jobs.{job_of, IsBuilt, HasReadableSize, EndsSo, Makes, made_of, put_of};
+ghost use Rattle.netmesh_cli.specs.Jobs.{job_of, IsInRange, EndsSo, Makes, made_of, put_of};
 ghost use Rattle.netmesh_cli.specs.Jobs.{names_of_puts, puts_of};
 ghost use Rattle.netmesh_cli.specs.Served.{IsServed, IsAnswer, MakeRefused, Course, WrittenBefore};
 
@@ -10,18 +10,22 @@ use super::asked::Asked;
 use super::geom::make_geom;
 use super::made::Made;
 use super::mesh::make_mesh;
+use super::rules::make_rules;
 use super::{Outcome, Refusal, files};
 use folder_io::{Folder, Sink};
+use mesh_run::Gate;
 use std::alloc::Global;
+use std::thread::Threads;
 
 /// What the verb makes of the files that it takes.
-fn make<'a, F: Folder>(
+fn make<'a, R: Threads + Sync, F: Folder, G: Gate + Sync>(
+    rt: &R,
     alloc: Global,
     asked: &Asked<'a>,
     folder: &mut F,
+    gate: &G,
 ) -> Result<Made<'a>, Refusal>
-    requires built { IsBuilt (job_of asked.now) }
-    requires readable { HasReadableSize (job_of asked.now) }
+    requires { IsInRange (job_of asked.now) }
     ensures held { (F.state folder.new).held ≡ (F.state folder.old).held }
     ensures made { IfOk result (λ made. Told (F.state folder.old).held
         (λ files. Makes (job_of asked.now) files (made_of made))) }
@@ -33,21 +37,24 @@ fn make<'a, F: Folder>(
     ensures rises { (F.state folder.old).faults ≤ (F.state folder.new).faults }
 {
     match asked {
-        Asked::Mesh(call) => make_mesh(alloc, call, folder),
+        Asked::Mesh(call) => make_mesh(rt, alloc, call, folder, gate),
         Asked::Geom(name) => make_geom(alloc, name, folder),
+        Asked::Rules(name) => make_rules(alloc, name, folder),
     }
 }
 
 /// Does the work of a verb, and says how it ended, or why it was refused.
-pub fn serve<F: Folder, O: Sink>(
+pub fn serve<R: Threads + Sync, F: Folder, O: Sink, G: Gate + Sync>(
+    rt: &R,
     alloc: Global,
     asked: &Asked,
     folder: &mut F,
     out: &mut O,
+    gate: &G,
 ) -> Result<Outcome, Refusal>
-    requires built { IsBuilt (job_of asked.now) }
-    requires readable { HasReadableSize (job_of asked.now) }
-    ensures served { IfOk result (λ outcome. ToldBoth (F.state folder.old).held (F.state folder.new).held
+    requires { IsInRange (job_of asked.now) }
+    ensures served { IfOk result
+        (λ outcome. ToldBoth (F.state folder.old).held (F.state folder.new).held
         (IsServed (job_of asked.now) outcome
         (O.state out.old).written (O.state out.new).written)) }
     ensures ending { IfOk result (EndsSo (job_of asked.now)) }
@@ -61,7 +68,7 @@ pub fn serve<F: Folder, O: Sink>(
     ensures rises { (F.state folder.old).faults ≤ (F.state folder.new).faults }
     ensures rises_out { (O.state out.old).faults ≤ (O.state out.new).faults }
 {
-    let made = make(alloc, asked, folder)?;
+    let made = make(rt, alloc, asked, folder, gate)?;
     files::put_all(alloc, folder, made.puts.as_slice())?;
     files::answer(out, &made.answer)?;
     Ok(made.outcome)

@@ -6,7 +6,7 @@ ghost use Rattle.netmesh_cli.specs.declared.words_fault.WordsFault.{WordsFault a
 ghost use Rattle.netmesh_cli.specs.Commands.{MeshTask, MeshOf, IsCommand, IsFault};
 ghost use Rattle.netmesh_cli.specs.Words.{AskForUnbuilt};
 ghost use Rattle.netmesh_cli.specs.Causes.{IsUntaken, HasFailed};
-ghost use Rattle.netmesh_cli.specs.Jobs.{Job, MeshJob, IsBuilt, HasReadableSize};
+ghost use Rattle.netmesh_cli.specs.Jobs.{Job, MeshJob, IsInRange};
 ghost use Rattle.netmesh_cli.specs.Jobs.{job_of, puts_of, task_of_job};
 ghost use Rattle.netmesh_cli.specs.Served.{AreApart};
 ghost use Rattle.netmesh_cli.specs.Top.{IsNotYetOrMemory, IsWordsOrMemory, Telling, WritesLine};
@@ -40,14 +40,15 @@ fn tell<O: Sink>(alloc: Global, out: &mut O, refusal: Refusal) -> Refusal
 }
 
 /// The outcome of a verb, with the line of a refusal written.
-fn answered<F: Folder, O: Sink>(
+fn answered<R: Threads + Sync, F: Folder, O: Sink, G: Gate + Sync>(
+    rt: &R,
     alloc: Global,
     asked: &Asked,
     folder: &mut F,
     out: &mut O,
+    gate: &G,
 ) -> Outcome
-    requires built { IsBuilt (job_of asked.now) }
-    requires readable { HasReadableSize (job_of asked.now) }
+    requires range { IsInRange (job_of asked.now) }
     requires apart { AreApart (puts_of (job_of asked.now)) }
     ensures answers { Answers (job_of asked.now) result
         (F.state folder.old) (F.state folder.new) (O.state out.old) (O.state out.new) }
@@ -57,7 +58,7 @@ fn answered<F: Folder, O: Sink>(
         (IsUntaken (O.state out.old) (O.state out.new))) }
     ensures line { IfRefused result (WritesLine (O.state out.old) (O.state out.new)) }
 {
-    match serve(alloc, asked, folder, out) {
+    match serve(rt, alloc, asked, folder, out, gate) {
         Ok(outcome) => outcome,
         Err(refusal) => Outcome::Refused(tell(alloc, out, refusal)),
     }
@@ -66,19 +67,20 @@ fn answered<F: Folder, O: Sink>(
 /// Runs the program on its words. `mesh GEOMETRY RULES MESH LOG` meshes the geometry by the rules,
 /// puts the log and then the mesh, and writes a summary line. `--maxh V` is the greatest size anywhere,
 /// and `--grading N` how fast sizes may grow. `geom GEOMETRY` writes the geometry's normal text, and as
-/// comments its shift and the doubled areas of its domains.
+/// comments its shift and the doubled areas of its domains. `rules RULES` writes of each rule whether it
+/// is live or why it never applies, and the normal text of them all.
 ///
-/// Refused are words at fault; `mesh` with `--class` or `--steps`, and the other verbs; a file that
-/// isn't there, is too long or can't be taken or put; a text of no geometry; a geometry that isn't
-/// accepted; and by `mesh` bytes that are no rule file, and a rule file with a rule. A refusal writes
-/// its line. Where memory is refused the outcome says so, and no clause says when it may be.
+/// Refused are words at fault, and the other verbs; a file that isn't there, is too long or can't be
+/// taken or put; a text of no geometry; a geometry that isn't accepted; and bytes that are no rule file.
+/// A refusal writes its line. Where memory is refused the outcome says so, and no clause says when it
+/// may be.
 pub fn netmesh<R: Threads + Sync, F: Folder, O: Sink, G: Gate + Sync>(
-    _rt: &R,
+    rt: &R,
     alloc: Global,
     words: &[String],
     folder: &mut F,
     out: &mut O,
-    _gate: &G,
+    gate: &G,
 ) -> Outcome
     // Words.
     ensures words_at_fault { (fault : WordsFaultValue) → IsFault (map string_bytes words.now) fault
@@ -88,17 +90,19 @@ pub fn netmesh<R: Threads + Sync, F: Folder, O: Sink, G: Gate + Sync>(
     ensures words_cause { IfRefused result (WordsCause (map string_bytes words.now)) }
 
     // The verbs that are built.
-    ensures answers { (job : Job) → IsBuilt job → IsCommand (map string_bytes words.now) (task_of_job job)
+    ensures answers { (job : Job)
+        → IsCommand (map string_bytes words.now) (task_of_job job)
         → Answers job result
         (F.state folder.old) (F.state folder.new) (O.state out.old) (O.state out.new) }
-    ensures exactly { (job : Job) → IsBuilt job → IsCommand (map string_bytes words.now) (task_of_job job)
+    ensures exactly { (job : Job)
+        → IsCommand (map string_bytes words.now) (task_of_job job)
         → Told (F.state folder.old).held
         (Exactly job result
         (HasFailed (F.state folder.old) (F.state folder.new))
         (IsUntaken (O.state out.old) (O.state out.new))) }
 
     // `mesh`, where it isn't refused.
-    ensures mesh { (task : MeshTask) → IsBuilt (MeshJob task)
+    ensures mesh { (task : MeshTask)
         → IsCommand (map string_bytes words.now) (MeshOf task)
         → IfServed result (λ outcome.
         ToldBoth (F.state folder.old).held (F.state folder.new).held
@@ -108,7 +112,7 @@ pub fn netmesh<R: Threads + Sync, F: Folder, O: Sink, G: Gate + Sync>(
     ensures line { IfRefused result (WritesLine (O.state out.old) (O.state out.new)) }
 {
     match read_asked(alloc, words) {
-        Ok(asked) => answered(alloc, &asked, folder, out),
+        Ok(asked) => answered(rt, alloc, &asked, folder, out, gate),
         Err(refusal) => Outcome::Refused(tell(alloc, out, refusal)),
     }
 }

@@ -34,11 +34,11 @@ same s r e = subst (λ (z : Found). is_gt (rank_cmp s z) ≡ false) e (own (rank
     own Equal e = refl
     own Greater e = ap is_gt e
 
-no_worse_same : (o : Option Found) → IsNoWorse o o
+pub no_worse_same : (o : Option Found) → IsNoWorse o o
 no_worse_same None = tt
 no_worse_same (Some r) = same r r refl
 
-no_worse_chain : (o p q : Option Found) → IsNoWorse o p → IsNoWorse p q → IsNoWorse o q
+pub no_worse_chain : (o p q : Option Found) → IsNoWorse o p → IsNoWorse p q → IsNoWorse o q
 no_worse_chain o p None h k = tt
 no_worse_chain o None (Some r) h k = absurd k
 no_worse_chain None (Some s) (Some r) h k = absurd h

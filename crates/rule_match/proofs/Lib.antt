@@ -15,3 +15,28 @@ pub mod Orders
 pub mod NextPoint
 pub mod Covered
 pub mod Tried
+-- Over a front: Gathered, the walk over the lines near a base line.
+pub mod Gathered
+-- NearPlaces: the box of all points in range, and local places, as the code computes them.
+pub mod NearPlaces
+-- Surroundings: the starts of front lines in range are the front points in range.
+pub mod Surroundings
+-- NewParts: the new points and the elements of an attempt.
+pub mod NewParts
+-- Standing: an assignment that meets each test stands for an attempt that meets a candidate's sentences on points, lines and turns.
+pub mod Standing
+-- BaseLines: a front line's frame, and its near points.
+pub mod BaseLines
+-- GluedParts: elements by numbers and by places.
+pub mod GluedParts
+-- Judged: what a whole assignment is judged by.
+pub mod Judged
+-- OverRules: the search over all rules. FoundParts: the application that a find gives.
+pub mod OverRules
+pub mod FoundParts
+-- The law Near: a candidate's places lie in its reach.
+pub mod WithinReach
+-- A candidate by places is one by numbers; a later candidate is an earlier one.
+pub mod NearBack
+-- FarAway: elements in a box leave a front alike in each box apart from it.
+pub mod FarAway

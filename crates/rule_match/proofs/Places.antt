@@ -30,7 +30,7 @@ corner_contained p [] c = absurd c
 corner_contained p (q ∷ ps) (inl e) = (0, omega arith, e)
 corner_contained p (q ∷ ps) (inr c) = let r : Contains ps p = corner_contained p ps c in (suc r.0, omega (arith, r.1), r.2)
 
-number_corner : (pts : List Point) (n : ℕ) (ns : List ℕ) → Contains ns n → IsCorner (point_at pts n) (corners_of pts ns)
+pub number_corner : (pts : List Point) (n : ℕ) (ns : List ℕ) → Contains ns n → IsCorner (point_at pts n) (corners_of pts ns)
 number_corner pts n ns r = at ns r.0 r.1 r.2
   where
     at : (ns : List ℕ) (k : ℕ) → k < length ns → slice_index_or ns k n ≡ n → IsCorner (point_at pts n) (corners_of pts ns)

@@ -2,13 +2,19 @@
 --
 -- IsPointOf    a near point is told by its number
 -- IsAround     all front points in range are near, and all front lines between such points are known
+-- IsSurrounding  the near points are the front points in range, each once, and the lines are front lines
+-- near_of      the near point with a number
+-- IsStartNear  a front line's start is in range
+-- IsAdded      a line is passed while lines are gathered
 -- setting_of   the attempt's rule tried on its line with these
 -- StandFor     numbers of near points stand for numbers of points
 -- IsTried      an assignment of near points that stands for these points meets each test
-use Rattle.std.specs.Prelude.{ℕ, ◌≡◌, ◌<◌, true, List, length}
-use Rattle.std.specs.List.{AllZip, list_any}
+use Rattle.std.specs.Prelude.{ℕ, ◌≡◌, ◌<◌, true, List, length, Option, Some}
+use Rattle.std.specs.List.{All, AllZip, list_any}
+use Rattle.grid_geom.specs.declared.Point.{Point}
 use Rattle.rule_maps.specs.Frame.{LocalFrame, local4_x, local4_y, IsInRange}
 use Rattle.state_law.specs.State.{State, point_at}
+use Rattle.front_chain.specs.Front.{FrontState, state_of, line_at}
 use Rattle.rule_match.specs.declared.near.NearPoint.{NearPoint}
 use Rattle.rule_match.specs.Candidate.{Attempt, IsFrontPoint, IsFrontPair}
 use Rattle.rule_match.specs.Fitting.{fits_so_far}
@@ -23,13 +29,61 @@ pub record IsPointOf (st : State) (f : LocalFrame) (n : NearPoint) : Type 0 wher
 pub record IsAround (st : State) (f : LocalFrame) (near : List NearPoint) (lines : List (ℕ × ℕ)) : Type 0 where
   pub points : (k : ℕ) → k < length near → IsPointOf st f (near_at near k)
   -- all front points in range are near
-  pub all_points : (n : ℕ) → IsFrontPoint st n → IsInRange f (point_at st.points n) → (k : ℕ) × (k < length near) × ((near_at near k).number ≡ n)
+  pub all_points : (n : ℕ) → IsFrontPoint st n → IsInRange f (point_at st.points n) → (k : ℕ)
+      × (k < length near) × ((near_at near k).number ≡ n)
   -- all front lines between points in range are known
-  pub all_lines : (a b : ℕ) → IsFrontPair st (a, b) → IsInRange f (point_at st.points a) → IsInRange f (point_at st.points b) → list_any (does_go a b) lines ≡ true
+  pub all_lines : (a b : ℕ) → IsFrontPair st (a, b) → IsInRange f (point_at st.points a)
+      → IsInRange f (point_at st.points b) → list_any (does_go a b) lines ≡ true
+
+-- the near points are the front points in range, each once, and the lines are front lines
+pub record IsSurrounding (st : State) (f : LocalFrame) (near : List NearPoint) (lines : List (ℕ × ℕ)) : Type 0 where
+  pub around : IsAround st f near lines
+  pub on_front : (k : ℕ) → k < length near → IsFrontPoint st (near_at near k).number
+  pub in_range : (k : ℕ) → k < length near → IsInRange f (near_at near k).at
+  pub once : (j k : ℕ) → j < length near → k < length near
+      → (near_at near j).number ≡ (near_at near k).number → j ≡ k
+  pub front_lines : (a b : ℕ) → list_any (does_go a b) lines ≡ true → IsFrontPair st (a, b)
+
+-- the near point with the number
+abbrev pub near_of : List Point → LocalFrame → ℕ → NearPoint
+near_of points f n = record {
+  number = n;
+  at = point_at points n;
+  x = local4_x f (point_at points n);
+  y = local4_y f (point_at points n);
+}
+
+-- a front line goes so, and its start is in range
+abbrev pub IsStartNear : State → LocalFrame → ℕ × ℕ → Type 0
+IsStartNear st f s = IsFrontPair st s × IsInRange f (point_at st.points s.0)
+
+-- each front line whose start is in range is one of the lines
+abbrev pub HasStartsNear : State → LocalFrame → List (ℕ × ℕ) → Type 0
+HasStartsNear st f lines = (a b : ℕ) → IsFrontPair st (a, b) → IsInRange f (point_at st.points a)
+    → list_any (does_go a b) lines ≡ true
+
+-- ---- while lines are gathered
+-- where the line with the number begins in range, it is gathered
+abbrev pub IsPassed : FrontState → LocalFrame → List (ℕ × ℕ) → ℕ → Type 0
+IsPassed f frame lines n = (ends : ℕ × ℕ) → line_at f.lines n ≡ Some ends
+    → IsInRange frame (point_at f.points ends.0) → list_any (does_go ends.0 ends.1) lines ≡ true
+
+-- the line with the number is passed, and what was gathered stays
+pub record IsAdded (f : FrontState) (frame : LocalFrame) (n : ℕ) (old new : List (ℕ × ℕ)) : Type 0 where
+  pub kept : (a b : ℕ) → list_any (does_go a b) old ≡ true → list_any (does_go a b) new ≡ true
+  pub passed : IsPassed f frame new n
+  pub only : All (IsStartNear (state_of f) frame) old → All (IsStartNear (state_of f) frame) new
 
 -- the attempt's rule tried on its line, at its class
 abbrev pub setting_of : Attempt → List NearPoint → List (ℕ × ℕ) → Setting
-setting_of t near lines = record { class = t.class; from = t.line.1; to = t.line.2; near = near; lines = lines; rule = t.text }
+setting_of t near lines = record {
+  class = t.class;
+  from = t.line.1;
+  to = t.line.2;
+  near = near;
+  lines = lines;
+  rule = t.text;
+}
 
 -- numbers of near points stand for numbers of points
 abbrev pub StandFor : List NearPoint → List ℕ → List ℕ → Type 0

@@ -15,7 +15,7 @@ use Rattle.grid_geom.specs.Closed.{same_point}
 use Rattle.grid_geom.specs.Line.{whole}
 use Rattle.grid_geom.specs.Plane.{orient}
 use Rattle.grid_geom.specs.Polygon.{IsStrictlyConvex, IsInPolygon, IsApart}
-use Rattle.rule_maps.specs.Places.{Mapping, new_point, corner}
+use Rattle.rule_maps.specs.Places.{Mapping, new_point}
 use Rattle.rule_maps.specs.Inert.{IsLive}
 use Rattle.rule_maps.specs.Frame.{LocalFrame, local4_x, local4_y, IsInRange}
 use Rattle.rule_reader.specs.declared.rule.Rule.{Rule}
@@ -23,6 +23,7 @@ use Rattle.rule_reader.specs.declared.rule.Place.{Place}
 use Rattle.rule_reader.specs.declared.rule.Triple.{Triple}
 use Rattle.rule_reader.specs.declared.rule.MapPoint.{MapPoint}
 use Rattle.rule_reader.specs.declared.rule.MapLine.{MapLine}
+use Rattle.free_zone.specs.Zone.{zone_of}
 use Rattle.state_law.specs.State.{State, point_at, front_edges, corners_of}
 use Rattle.state_law.specs.Gluing.{MayAllBeGlued}
 
@@ -58,16 +59,14 @@ abbrev pub made_from : Mapping → ℕ → List Place → List Point
 made_from m k [] = []
 made_from m k (p ∷ ps) = new_point m k ∷ made_from m (k + 1) ps
 
-abbrev pub made : State → Attempt → List Point
-made st t = made_from (mapping st t) 1 t.text.new_points
+abbrev pub made_of : Mapping → List Point
+made_of m = made_from m 1 m.rule.new_points
 
--- the places of the zone's corners at the class from number k on
-abbrev pub zone_from : Mapping → ℕ → ℕ → List Place → List Point
-zone_from m class k [] = []
-zone_from m class k (p ∷ ps) = corner m k class ∷ zone_from m class (k + 1) ps
+abbrev pub made : State → Attempt → List Point
+made st t = made_of (mapping st t)
 
 abbrev pub zone : State → Attempt → List Point
-zone st t = zone_from (mapping st t) t.class 1 t.text.area
+zone st t = zone_of (mapping st t) t.class
 
 -- the corners of the elements; rule points after the mapped ones are the new points
 abbrev pub elements : State → Attempt → List (List Point)
@@ -96,12 +95,19 @@ AreTolerated class (at ∷ ats) [] = ⊥
 AreTolerated class (at ∷ ats) (p ∷ ps) = IsPointTolerated class at p × AreTolerated class ats ps
 
 abbrev pub rule_place : List MapPoint → ℕ → Point
-rule_place ps n = let p = slice_index_or ps (n - 1) (record { x = pos 0; y = pos 0; tol = record { f1 = pos 0; f2 = pos 0; f3 = pos 0 } }) in record { x = p.x; y = p.y }
+rule_place ps n = let p = slice_index_or ps (n - 1)
+    (record {
+      x = pos 0;
+      y = pos 0;
+      tol = record { f1 = pos 0; f2 = pos 0; f3 = pos 0 };
+    }) in record { x = p.x; y = p.y }
 
 abbrev pub IsLineTolerated : ℕ → List Point → List MapPoint → MapLine → Type 0
 IsLineTolerated class ats ps l = IsTolerated class l.tol
-    (((point_at ats l.j).x -ℤ (point_at ats l.i).x) -ℤ ((rule_place ps l.j).x -ℤ (rule_place ps l.i).x))
-    (((point_at ats l.j).y -ℤ (point_at ats l.i).y) -ℤ ((rule_place ps l.j).y -ℤ (rule_place ps l.i).y))
+    (((point_at ats l.j).x -ℤ (point_at ats l.i).x) -ℤ
+    ((rule_place ps l.j).x -ℤ (rule_place ps l.i).x))
+    (((point_at ats l.j).y -ℤ (point_at ats l.i).y) -ℤ
+    ((rule_place ps l.j).y -ℤ (rule_place ps l.i).y))
 
 -- ---- the front by numbers
 -- n is an end of a front line
@@ -132,9 +138,11 @@ pub record IsCandidate (st : State) (t : Attempt) : Type 0 where
   pub at_lines : AllByRecursion (λ l. IsFrontPair st (mapped_pair t.points l)) t.text.lines
   -- the tolerances at the class
   pub points_tolerated : AreTolerated t.class (locals st t) t.text.points
-  pub lines_tolerated : AllByRecursion (IsLineTolerated t.class (locals st t) t.text.points) t.text.lines
+  pub lines_tolerated : AllByRecursion
+      (IsLineTolerated t.class (locals st t) t.text.points) t.text.lines
   -- the orientations
-  pub turned : AllByRecursion (λ n. pos 0 <ℤ orient (point_at (mapped st t) n.0) (point_at (mapped st t) n.1) (point_at (mapped st t) n.2)) t.text.turns
+  pub turned : AllByRecursion (λ n. pos 0 <ℤ orient (point_at (mapped st t) n.0)
+      (point_at (mapped st t) n.1) (point_at (mapped st t) n.2)) t.text.turns
   -- the new points: on the grid, at no listed point, different
   pub made_on_grid : AllByRecursion IsOnGrid (made st t)
   pub made_new : AllByRecursion (λ p. ¬ (Contains st.points p)) (made st t)
@@ -143,7 +151,10 @@ pub record IsCandidate (st : State) (t : Attempt) : Type 0 where
   pub zone_on_grid : AllByRecursion IsOnGrid (zone st t)
   pub zone_convex : IsStrictlyConvex (zone st t)
   -- no front point but the mapped ones in the open zone, each front line but the mapped ones apart from it
-  pub no_point_in_zone : (n : ℕ) → IsFrontPoint st n → (Contains t.points n) ⊎ ¬ (IsInPolygon (whole (point_at st.points n)) (zone st t))
-  pub no_line_in_zone : AllByRecursion (λ line. IsMappedLine t line ⊎ IsApart (point_at st.points line.1) (point_at st.points line.2) (zone st t)) st.front
+  pub no_point_in_zone : (n : ℕ) → IsFrontPoint st n → (Contains t.points n)
+      ⊎ ¬ (IsInPolygon (whole (point_at st.points n)) (zone st t))
+  pub no_line_in_zone : AllByRecursion
+      (λ line. IsMappedLine t line
+      ⊎ IsApart (point_at st.points line.1) (point_at st.points line.2) (zone st t)) st.front
   -- the elements, one after another
   pub glued : MayAllBeGlued (elements st t) (front_edges st.points st.front)

@@ -52,7 +52,10 @@ pub record IsOrder (plan places : List ℕ) (n : ℕ) : Type 0 where
 
 -- the tests with their points as places in the order of mapping
 abbrev pub renumbered : List ℕ → List Tie → List Tie
-renumbered places ties = map (λ tie. record { at = map (λ k. slice_index_or places k 0) tie.at; test = tie.test }) ties
+renumbered places ties = map (λ tie. record {
+  at = map (λ k. slice_index_or places k 0) tie.at;
+  test = tie.test;
+}) ties
 
 -- an assignment in the rule's order has different points and meets each test
 pub record DoesFit (ties : List Tie) (a : List ℕ) : Type 0 where

@@ -33,7 +33,10 @@ squares (e ∷ es) = square (e.b.x -ℤ e.a.x) + square (e.b.y -ℤ e.a.y) + squ
 
 -- of one element: (sum of squared sides) / (doubled area)
 abbrev pub badness_of : List Point → Badness
-badness_of corners = record { squares = squares (sides corners); area = unsigned_abs (shoelace (sides corners)) }
+badness_of corners = record {
+  squares = squares (sides corners);
+  area = unsigned_abs (shoelace (sides corners));
+}
 
 -- the first unless the second is greater
 abbrev pub worse : Badness → Badness → Badness
@@ -46,13 +49,18 @@ worst x (corners ∷ elements) = worst (worse x (badness_of corners)) elements
 
 -- what is compared of the candidates of one line and class
 abbrev pub rank : State → Attempt → Found
-rank st t = record { badness = worst (record { squares = 0; area = 1 }) (elements st t); rule = t.rule; points = t.points }
+rank st t = record {
+  badness = worst (record { squares = 0; area = 1 }) (elements st t);
+  rule = t.rule;
+  points = t.points;
+}
 
 -- the attempt is one on the front line with the number, with its frame at the size at its middle, at the class, by a rule of the list with its number
 pub record IsOf (sizes : SizeField) (st : State) (rules : List Rule) (line class : ℕ) (t : Attempt) : Type 0 where
   pub on_front : Contains st.front t.line
   pub same_line : t.line.0 ≡ line
-  pub framed : IsFrameOf (point_at st.points t.line.1) (point_at st.points t.line.2) (size_at sizes t.frame.middle) t.frame
+  pub framed : IsFrameOf (point_at st.points t.line.1) (point_at st.points t.line.2)
+      (size_at sizes t.frame.middle) t.frame
   pub same_class : t.class ≡ class
   pub numbered : 1 ≤ t.rule
   pub is_rule : slice_get rules (t.rule - 1) ≡ Some t.text
@@ -61,7 +69,8 @@ pub record IsOf (sizes : SizeField) (st : State) (rules : List Rule) (line class
 pub record IsLeast (sizes : SizeField) (st : State) (rules : List Rule) (line class : ℕ) (t : Attempt) : Type 0 where
   pub of : IsOf sizes st rules line class t
   pub candidate : IsCandidate st t
-  pub least : (other : Attempt) → IsOf sizes st rules line class other → IsCandidate st other → is_gt (rank_cmp (rank st t) (rank st other)) ≡ false
+  pub least : (other : Attempt) → IsOf sizes st rules line class other → IsCandidate st other
+      → is_gt (rank_cmp (rank st t) (rank st other)) ≡ false
 
 -- none of the line's attempts at the class is a candidate
 pub record HasNone (sizes : SizeField) (st : State) (rules : List Rule) (line class : ℕ) : Type 0 where

@@ -1,10 +1,11 @@
 -- What this crate's words mean, in the order of standing on each other.
 -- Order: which of two finds comes first.
 pub mod Order
--- Candidate, Applied: when a rule applies at a line and what it does. Least: the least candidate of a line at a class.
+-- Candidate, Applied: when a rule applies at a line and what it does. Least: the least candidate of a line at a class. Best: its application.
 pub mod Candidate
 pub mod Applied
 pub mod Least
+pub mod Best
 -- Refused: why no candidate is there.
 pub mod Refused
 -- Walk: what a search promises.
@@ -13,3 +14,9 @@ pub mod Walk
 pub mod Fitting
 pub mod Trying
 pub mod Around
+-- Base: a front line tried at a class, and the attempts for which assignments of near points stand.
+pub mod Base
+-- Passed: what a search over the rules owes.
+pub mod Passed
+-- Near: when a later state is, near a line, as an earlier one was.
+pub mod Near

@@ -19,7 +19,8 @@ points_cmp = on (λ (f : Found). f.points) (slice_cmp nat_cmp)
 
 -- by badness, then rule number, then assignment
 abbrev pub rank_cmp : Found → Found → Ordering
-rank_cmp = then_cmp (on (λ (f : Found). f.badness) badness_cmp) (then_cmp (on (λ (f : Found). f.rule) nat_cmp) points_cmp)
+rank_cmp = then_cmp (on (λ (f : Found). f.badness) badness_cmp)
+    (then_cmp (on (λ (f : Found). f.rule) nat_cmp) points_cmp)
 
 -- the first isn't after the second; nothing found is after all that is
 abbrev pub IsNoWorse : Option Found → Option Found → Type 0

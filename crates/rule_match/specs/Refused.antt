@@ -43,8 +43,10 @@ pub record IsAllowed (st : State) (t : Attempt) : Type 0 where
   pub at_start : nth t.points 1 ≡ t.line.1
   pub at_end : nth t.points 2 ≡ t.line.2
   pub points_tolerated : AreTolerated t.class (locals st t) t.text.points
-  pub lines_tolerated : AllByRecursion (IsLineTolerated t.class (locals st t) t.text.points) t.text.lines
-  pub turned : AllByRecursion (λ n. pos 0 <ℤ orient (point_at (mapped st t) n.0) (point_at (mapped st t) n.1) (point_at (mapped st t) n.2)) t.text.turns
+  pub lines_tolerated : AllByRecursion
+      (IsLineTolerated t.class (locals st t) t.text.points) t.text.lines
+  pub turned : AllByRecursion (λ n. pos 0 <ℤ orient (point_at (mapped st t) n.0)
+      (point_at (mapped st t) n.1) (point_at (mapped st t) n.2)) t.text.turns
   pub made_on_grid : AllByRecursion IsOnGrid (made st t)
   pub made_different : IsDistinct same_point (made st t)
   pub zone_on_grid : AllByRecursion IsOnGrid (zone st t)
@@ -52,7 +54,8 @@ pub record IsAllowed (st : State) (t : Attempt) : Type 0 where
 
 -- the line is noted beside one of the points
 abbrev pub is_noted : List Note → List ℕ → ℕ × ℕ × ℕ → Bool
-is_noted notes points line = list_any (λ note. nat_eq note.line line.0 && list_any (nat_eq note.point) points) notes
+is_noted notes points line = list_any
+    (λ note. nat_eq note.line line.0 && list_any (nat_eq note.point) points) notes
 
 -- the front lines that are noted beside a point that the attempt maps
 abbrev pub witnesses : State → List Note → Attempt → List Edge
@@ -60,13 +63,16 @@ witnesses st notes t = front_edges st.points (filter (is_noted notes t.points) s
 
 -- the reason why the attempt is no candidate: a front line that hinders it is noted beside a point that it maps
 abbrev pub IsExcused : State → List Note → Attempt → Type 0
-IsExcused st notes t = refusal.HasReason st.points (front_edges st.points st.front) (witnesses st notes t) (places_of st t)
+IsExcused st notes t = refusal.HasReason st.points (front_edges st.points st.front)
+    (witnesses st notes t) (places_of st t)
 
 -- each allowed attempt that fits the front has its reason
 pub record IsRefusedBy (sizes : SizeField) (st : State) (rules : List Rule) (line class : ℕ) (notes : List Note) : Type 0 where
-  pub excused : (t : Attempt) → IsOf sizes st rules line class t → IsAllowed st t → refusal.DoesFit (front_edges st.points st.front) (places_of st t) → IsExcused st notes t
+  pub excused : (t : Attempt) → IsOf sizes st rules line class t → IsAllowed st t
+      → refusal.DoesFit (front_edges st.points st.front) (places_of st t) → IsExcused st notes t
 
 -- the same of the attempts that map one of the fresh points
 pub record IsRefusedAgain (sizes : SizeField) (st : State) (rules : List Rule) (line class : ℕ) (fresh : List ℕ) (notes : List Note) : Type 0 where
-  pub excused : (t : Attempt) → IsOf sizes st rules line class t → IsAllowed st t → refusal.DoesFit (front_edges st.points st.front) (places_of st t) →
+  pub excused : (t : Attempt) → IsOf sizes st rules line class t → IsAllowed st t
+      → refusal.DoesFit (front_edges st.points st.front) (places_of st t) →
       Any (λ p. Contains fresh p) t.points → IsExcused st notes t

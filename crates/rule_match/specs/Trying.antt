@@ -75,12 +75,17 @@ point_ties s k [] = []
 point_ties s k (p ∷ ps) = point_tie s k p ∷ point_ties s (k + 1) ps
 
 abbrev pub line_tie : Setting → MapLine → Tie
-line_tie s l = record { at = (l.i - 1) ∷ (l.j - 1) ∷ []; test = λ ns. line_test s l (near_at s.near (slice_index_or ns 0 0)) (near_at s.near (slice_index_or ns 1 0)) }
+line_tie s l = record {
+  at = (l.i - 1) ∷ (l.j - 1) ∷ [];
+  test = λ ns. line_test s l (near_at s.near (slice_index_or ns 0 0))
+      (near_at s.near (slice_index_or ns 1 0));
+}
 
 abbrev pub turn_tie : Setting → ℕ × ℕ × ℕ → Tie
 turn_tie s t = record {
   at = (t.0 - 1) ∷ (t.1 - 1) ∷ (t.2 - 1) ∷ [];
-  test = λ ns. turn_test (near_at s.near (slice_index_or ns 0 0)) (near_at s.near (slice_index_or ns 1 0)) (near_at s.near (slice_index_or ns 2 0));
+  test = λ ns. turn_test (near_at s.near (slice_index_or ns 0 0))
+      (near_at s.near (slice_index_or ns 1 0)) (near_at s.near (slice_index_or ns 2 0));
 }
 
 abbrev pub other_ties : Setting → List Tie
@@ -90,17 +95,21 @@ abbrev pub ties : Setting → List Tie
 ties s = point_ties s 0 s.rule.points ++ other_ties s
 
 -- ---- with no point mapped yet no test can be made
-start_points : (s : Setting) (k : ℕ) (ms : List MapPoint) (rest : List Tie) → list_all (is_met []) rest ≡ true → list_all (is_met []) (point_ties s k ms ++ rest) ≡ true
+start_points : (s : Setting) (k : ℕ) (ms : List MapPoint) (rest : List Tie)
+    → list_all (is_met []) rest ≡ true → list_all (is_met []) (point_ties s k ms ++ rest) ≡ true
 start_points s k [] rest h = h
 start_points s k (m ∷ ms) rest h = start_points s (k + 1) ms rest h
 
-start_lines : (s : Setting) (ls : List MapLine) (rest : List Tie) → list_all (is_met []) rest ≡ true → list_all (is_met []) (map (line_tie s) ls ++ rest) ≡ true
+start_lines : (s : Setting) (ls : List MapLine) (rest : List Tie) → list_all (is_met []) rest ≡ true
+    → list_all (is_met []) (map (line_tie s) ls ++ rest) ≡ true
 start_lines s [] rest h = h
 start_lines s (l ∷ ls) rest h = start_lines s ls rest h
 
-start_turns : (s : Setting) (ns : List (ℕ × ℕ × ℕ)) → list_all (is_met []) (map (turn_tie s) ns) ≡ true
+start_turns : (s : Setting) (ns : List (ℕ × ℕ × ℕ))
+    → list_all (is_met []) (map (turn_tie s) ns) ≡ true
 start_turns s [] = refl
 start_turns s (n ∷ ns) = start_turns s ns
 
 pub starts : (s : Setting) → fits_so_far (ties s) [] ≡ true
-starts s = start_points s 0 s.rule.points (other_ties s) (start_lines s s.rule.lines (map (turn_tie s) s.rule.turns) (start_turns s s.rule.turns))
+starts s = start_points s 0 s.rule.points (other_ties s)
+    (start_lines s s.rule.lines (map (turn_tie s) s.rule.turns) (start_turns s s.rule.turns))

@@ -24,7 +24,8 @@ pub record IsSettled (holds : List ℕ → Type 0) (reasons : List Note → List
   pub refused : p.best ≡ None → reasons p.notes.items b
 
 -- what is found now was found before, or is a candidate
-abbrev pub IsFrom : (holds : List ℕ → Type 0) (rank : List ℕ → Found) → Option Found → Option Found → Type 0
+abbrev pub IsFrom : (holds : List ℕ → Type 0) (rank : List ℕ → Found) → Option Found → Option Found
+    → Type 0
 IsFrom holds rank old None = Unit {0}
 IsFrom holds rank old (Some r) = (old ≡ Some r) ⊎ ((b : List ℕ) × holds b × (r ≡ rank b))
 

@@ -1,22 +1,50 @@
 //! Laws of candidates, each the contract of a function that does nothing.
 
-ghost use Rattle.std.specs.Prelude.{ℕ, List, [], ◌++◌, ◌≡◌, true, length};
+ghost use Rattle.std.specs.Prelude.{ℕ, List, [], ◌++◌, ◌≡◌, ◌≤◌, true, length};
 ghost use Rattle.rule_reader.specs.declared.rule.Rule.{Rule};
 ghost use Rattle.size_field.specs.Size.{SizeField};
 ghost use Rattle.state_law.specs.State.{State, front_edges};
 ghost use Rattle.state_law.specs.Refusal.{IsFront, HasReason, IsStep, Attempt as PlacedAttempt, DoesFit as IsOnFront};
-ghost use Rattle.state_law.specs.Saved.{IsCorner};
-ghost use Rattle.state_law.specs.Gluing.{glue_all};
+ghost use Rattle.state_law.specs.Saved.{AreInBox, IsCorner};
+ghost use Rattle.state_law.specs.Gluing.{glue_all, MayAllBeGlued};
 ghost use Rattle.grid_geom.specs.declared.Point.{Point};
 ghost use Rattle.grid_geom.specs.declared.Edge.{Edge};
 ghost use Rattle.rule_match.specs.declared.progress.Note.{Note as Noted};
 ghost use Rattle.rule_match.specs.Candidate.{Attempt, IsCandidate};
 ghost use Rattle.rule_match.specs.Least.{HasNone, IsLeast};
-ghost use Rattle.rule_match.specs.Refused.{IsRefusedBy, IsExcused};
+ghost use Rattle.std.specs.List.{AllByRecursion};
+ghost use Rattle.rule_maps.specs.Frame.{LocalFrame};
+ghost use Rattle.state_law.specs.Reach.{AreAlikeIn, IsWithinReach};
+ghost use Rattle.rule_match.specs.Near.{AreBoxesApart, IsAlikeNear, IsBox, IsCovered, IsCoveredBy, IsStayingLine, reach_lo, reach_hi};
+ghost use Rattle.rule_match.specs.Refused.{IsRefusedBy, IsExcused, places_of};
 ghost use Rattle.rule_match.specs.declared.near.NearPoint.{NearPoint as NearOne};
 ghost use Rattle.rule_match.specs.Trying.{Setting, ties};
 ghost use Rattle.rule_match.specs.Around.{IsAround, setting_of, IsTried};
 ghost use Rattle.rule_match.specs.Fitting.{Tie, fits_so_far, in_order, IsOrder, renumbered, DoesFit};
+
+/// All places of a candidate lie in the reach of its line. So where a later state of a domain is alike
+/// in that reach, each of its candidates on the line is one of the earlier state, and a line that has
+/// none at a class has none later.
+pub fn law_near()
+    ensures within { (n : ℕ) (st : State) (t : Attempt) → IsCovered n t → IsCandidate st t →
+        IsWithinReach (reach_lo n t.frame) (reach_hi n t.frame) (places_of st t) }
+    ensures candidate { (n : ℕ) (st later : State) (more : List Point) (t : Attempt) →
+        IsCovered n t → IsAlikeNear (reach_lo n t.frame) (reach_hi n t.frame) st later more →
+        IsCandidate later t → IsCandidate st t }
+    ensures none { (sizes : SizeField) (rules : List Rule) (n class : ℕ) (st later : State)
+        (more : List Point) (line : ℕ × ℕ × ℕ) (f : LocalFrame) → 1 ≤ class →
+        AllByRecursion (IsCoveredBy n) rules → IsStayingLine sizes st later line f →
+        IsAlikeNear (reach_lo n f) (reach_hi n f) st later more →
+        HasNone sizes st rules line.0 class → HasNone sizes later rules line.0 class }
+{}
+
+/// Elements that lie in a box leave a front alike in each box apart from it.
+pub fn law_far()
+    ensures { (lo hi elo ehi : Point) (front : List Edge) (elements : List (List Point)) →
+        IsBox lo hi → AreBoxesApart lo hi elo ehi → IsFront front →
+        AllByRecursion (AreInBox elo ehi) elements → MayAllBeGlued elements front →
+        AreAlikeIn lo hi front (glue_all front elements) }
+{}
 
 /// A line has at most one least candidate at a class: its rule and its assignment are fixed.
 pub fn law_one()

@@ -14,13 +14,20 @@
 //! near points are gathered from a front, and the search over all rules of a file.
 
 mod application;
+mod around;
 mod assignment;
 mod badness;
+mod base;
+mod few_points;
 mod found;
 mod fresh;
+mod front_trial;
 pub mod laws;
+mod least;
+mod making;
 mod near;
 mod progress;
+mod rule_search;
 mod rule_trial;
 mod squares;
 #[cfg(test)]
@@ -34,6 +41,7 @@ pub use assignment::Assignment;
 pub use badness::Badness;
 pub use found::Found;
 pub use fresh::search_fresh;
+pub use least::best;
 pub use near::NearPoint;
 pub use progress::{Note, Progress};
 pub use rule_trial::{Judge, RuleTrial};

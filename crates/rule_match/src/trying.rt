@@ -70,7 +70,7 @@ fn position(number: u32) -> usize
 }
 
 /// The near point that a number stands for; the origin, with the number 0, where there is none.
-fn point_near(near: &[NearPoint], n: usize) -> NearPoint
+pub(crate) fn point_near(near: &[NearPoint], n: usize) -> NearPoint
     requires { All (λ point. IsOnGrid point.at) near.now }
     ensures point { result ≡ near_at near.now n }
     ensures on_grid { IsOnGrid result.at }
@@ -259,7 +259,8 @@ impl<'a> Trying<'a> {
     #[tactic(auto, using(crate::proofs::NextPoint::next_point))]
     fn points_hold(&self, chosen: &[usize], p: usize) -> bool
         requires short { length chosen.now < length self.now.rule.points }
-        requires fits { list_all (is_met chosen.now) (point_ties self.now 0 self.now.rule.points) ≡ true }
+        requires fits { list_all (is_met chosen.now) (point_ties self.now 0 self.now.rule.points)
+            ≡ true }
         ensures { result ≡
             list_all (is_met (chosen.now ++ p ∷ [])) (point_ties self.now 0 self.now.rule.points) }
     {
@@ -306,7 +307,8 @@ impl<'a> Trying<'a> {
     #[tactic(auto, using(crate::proofs::NextPoint::all_first, crate::proofs::NextPoint::all_not))]
     fn tests_hold(&self, chosen: &[usize], p: usize) -> bool
         requires short { length chosen.now < length self.now.rule.points }
-        requires fits { list_all (is_met chosen.now) (point_ties self.now 0 self.now.rule.points) ≡ true }
+        requires fits { list_all (is_met chosen.now) (point_ties self.now 0 self.now.rule.points)
+            ≡ true }
         ensures { result ≡ list_all (is_met (chosen.now ++ p ∷ [])) (ties self.now) }
     {
         self.points_hold(chosen, p) && self.lines_and_turns_hold(chosen, p)

@@ -16,7 +16,7 @@ use Rattle.mesh_run.specs.declared.Options.{Options}
 use Rattle.mesh_run.specs.declared.End.{End}
 use Rattle.mesh_run.specs.declared.End.TheVariants.{Done, Stuck, Stopped}
 use Rattle.mesh_run.specs.declared.WholeRun.{WholeRun}
-use Rattle.mesh_run.specs.declared.application.Application.{Application}
+use Rattle.rule_match.specs.declared.application.Application.{Application}
 use Rattle.mesh_run.specs.declared.domain_run.DomainRun.{DomainRun}
 
 -- how a run ended
@@ -49,11 +49,13 @@ opening_points d = take d.opened d.points
 
 -- how many lines of each kind follow: opening points and lines, applications, front lines
 abbrev pub row_counts : DomainRun → List ℕ
-row_counts d = length (opening_points d) ∷ length d.lines ∷ length d.applications ∷ length d.front ∷ []
+row_counts d = length (opening_points d) ∷ length d.lines ∷ length d.applications ∷ length d.front
+    ∷ []
 
 -- a domain, how many lines of each kind follow, and how its run ended
 unfoldable pub domain_row : DomainRun → List ℕ
-domain_row d = codes "domain" ++ spaced (d.domain ∷ row_counts d) ++ 32 ∷ [] ++ end_word d.end ++ 10 ∷ []
+domain_row d = codes "domain" ++ spaced (d.domain ∷ row_counts d) ++ 32 ∷ [] ++ end_word d.end ++ 10
+    ∷ []
 
 -- the two coordinates of a point
 abbrev pub place_words : Point → List ℕ

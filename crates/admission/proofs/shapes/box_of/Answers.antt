@@ -1,7 +1,8 @@
 use Rattle.std.proofs.Common.{subst, arith}
 use Rattle.std.specs.List.{All}
 use Rattle.admission.specs.Around.{IsShapeIn}
-use Rattle.admission.proofs.Held.{held_more, all_taken}
+use Rattle.std.proofs.lemmas.List.{take_all}
+use Rattle.admission.proofs.Held.{held_more}
 use Rattle.admission.proofs.shapes.box_of.Goals as goal
 
 pub loop-shape-preserved : goal.loop-shape-preserved
@@ -12,4 +13,4 @@ loop-shape-preserved c = record {
 }
 
 pub returns : goal.returns
-returns c = subst (All (IsShapeIn c.loop-shape.bounds)) (all_taken c.args.shapes.now c.loop-shape.shape-index (omega (arith, c.loop-shape-test.false))) c.loop-shape.invariant.held
+returns c = subst (All (IsShapeIn c.loop-shape.bounds)) (take_all c.loop-shape.shape-index c.args.shapes.now (omega (arith, c.loop-shape-test.false))) c.loop-shape.invariant.held

@@ -6,13 +6,13 @@ use Rattle.netmesh_cli.proofs.Tops.{line_after}
 use Rattle.netmesh_cli.proofs.top.netmesh.Goals as goal
 
 pub answered-requires-clause-apart : goal.answered-requires-clause-apart
-answered-requires-clause-apart g c = job_apart _ (job_of c.in-Ok.asked) c.in-Ok.ensures.asked
+answered-requires-clause-apart g c = λ _ _. job_apart _ (job_of c.in-Ok.asked) c.in-Ok.ensures.asked
 
 pub returns-in-Ok-clause-words_at_fault : goal.returns-in-Ok-clause-words_at_fault
 returns-in-Ok-clause-words_at_fault g c = λ fault is. absurd (never_both _ (task_of_job (job_of c.in-Ok.asked)) fault c.in-Ok.ensures.asked is)
 
 pub returns-in-Ok-clause-words_not_built : goal.returns-in-Ok-clause-words_not_built
-returns-in-Ok-clause-words_not_built g c = λ ask. absurd (not_unbuilt _ (task_of_job (job_of c.in-Ok.asked)) (job_is_built (job_of c.in-Ok.asked) c.in-Ok.ensures.built) c.in-Ok.ensures.asked ask)
+returns-in-Ok-clause-words_not_built g c = λ ask. absurd (not_unbuilt _ (task_of_job (job_of c.in-Ok.asked)) (job_is_built (job_of c.in-Ok.asked)) c.in-Ok.ensures.asked ask)
 
 pub returns-in-Ok-clause-words_cause : goal.returns-in-Ok-clause-words_cause
 returns-in-Ok-clause-words_cause g c = no_words_cause _ (job_of c.in-Ok.asked) _ _ _ _ _ c.answered.ensures.answers

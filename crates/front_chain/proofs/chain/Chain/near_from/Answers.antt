@@ -9,7 +9,7 @@ use Rattle.front_chain.proofs.chain.Chain.near_from.Goals as goal
 
 pub point-requires : goal.point-requires
 point-requires c =
-    let made = c.self.inside.made.items in
+    let made = c.self.inside.order.made in
     let es = c.self.inside.sides.entries in
     let entry = sym c.get_index.ensures.entry ∙ ap (option_map deref_pair) c.unwrap.ensures in
     subst (λ n. IsListed n c.unwrap.result.0.now.from) (ap (λ v. length v.points) c.self.view_is)
@@ -17,7 +17,7 @@ point-requires c =
 
 pub point-requires-in-loop-place : goal.point-requires-in-loop-place
 point-requires-in-loop-place c =
-    let made = c.self.inside.made.items in
+    let made = c.self.inside.order.made in
     let es = c.self.inside.sides.entries in
     let entry = sym c.get_index.ensures.entry ∙ ap (option_map deref_pair) c.unwrap.ensures in
     subst (λ n. IsListed n c.unwrap.result.0.now.to) (ap (λ v. length v.points) c.self.view_is)
@@ -25,7 +25,7 @@ point-requires-in-loop-place c =
 
 pub returns-then-meets : goal.returns-then-meets
 returns-then-meets c =
-    let made = c.self.inside.made.items in
+    let made = c.self.inside.order.made in
     let es = c.self.inside.sides.entries in
     let entry = sym c.get_index.ensures.entry ∙ ap (option_map deref_pair) c.unwrap.ensures in
     let near = near_ends c.args.self.now c.args.b.now made es (entered made es c.self.invariant.0 c.len-place-end.ensures.unique) (ap (λ v. v.lines) c.self.view_is) c.loop-place.place c.unwrap.result.0.now c.unwrap.result.1.now entry
@@ -35,7 +35,7 @@ returns-then-meets c =
 
 pub loop-place-preserved : goal.loop-place-preserved
 loop-place-preserved c =
-    let made = c.self.inside.made.items in
+    let made = c.self.inside.order.made in
     let es = c.self.inside.sides.entries in
     let entry = sym c.get_index.ensures.entry ∙ ap (option_map deref_pair) c.unwrap.ensures in
     let near = near_ends c.args.self.now c.args.b.now made es (entered made es c.self.invariant.0 c.len-place-end.ensures.unique) (ap (λ v. v.lines) c.self.view_is) c.loop-place.place c.unwrap.result.0.now c.unwrap.result.1.now entry

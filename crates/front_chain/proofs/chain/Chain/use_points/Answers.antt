@@ -10,7 +10,7 @@ pub returns-clause-waiting : goal.returns-clause-waiting
 returns-clause-waiting c = filter_same _ (λ n. not (list_any (nat_eq n) c.args.used.now)) _ (λ n b f' called. search rules) _ _ c.retain.ensures.filtered ∙ ap (λ v. still_waiting v.waiting c.args.used.now) c.self.view_is
 
 pub returns-clause-walked : goal.returns-clause-walked
-returns-clause-walked c = walk_is c.self.inside.made.items c.self.inside.sides.entries c.self.invariant.0 c.self.invariant.1
+returns-clause-walked c = walk_is c.self.inside.order.made c.self.inside.sides.entries c.self.invariant.0 c.self.invariant.1
 
 pub returns-clause-positive : goal.returns-clause-positive
-returns-clause-positive c = all_above 0 1 c.self.inside.made.items (omega arith)
+returns-clause-positive c = all_above 0 1 c.self.inside.order.made (omega arith)

@@ -13,7 +13,7 @@ returns-clause-waiting c = filter_same _ (λ n. not (is_positive c.self.inside.l
     ∙ ap (λ v. filter (λ n. not (list_any (λ line. nat_eq line.1 n) v.lines)) v.waiting) c.self.view_is
 
 pub returns-clause-walked : goal.returns-clause-walked
-returns-clause-walked c = walk_is c.self.inside.made.items c.self.inside.sides.entries c.self.invariant.0 c.self.invariant.1
+returns-clause-walked c = walk_is c.self.inside.order.made c.self.inside.sides.entries c.self.invariant.0 c.self.invariant.1
 
 pub returns-clause-positive : goal.returns-clause-positive
-returns-clause-positive c = all_above 0 1 c.self.inside.made.items (omega arith)
+returns-clause-positive c = all_above 0 1 c.self.inside.order.made (omega arith)

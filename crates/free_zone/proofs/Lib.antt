@@ -1,0 +1,19 @@
+-- The proofs.
+-- InTurn: the corners of a rule's zone, one by one.
+pub mod InTurn
+-- Boxed: a box that holds a zone's corners.
+pub mod Boxed
+-- AtNumbers: front lines by their numbers, front points.
+pub mod AtNumbers
+-- Near: a line whose box misses the zone's is not in the way.
+pub mod Near
+-- Remaining: what of a walk is still to be met.
+pub mod Remaining
+-- Walking: what is found while the near lines are walked, and at the end.
+pub mod Walking
+-- Told: what is told at the end.
+pub mod Told
+-- Worked: the fronts of the tests.
+pub mod Worked
+-- OneAnswer: an answer is the only one.
+pub mod OneAnswer

@@ -1,0 +1,115 @@
+-- The fronts of the tests: the sides of strictly convex polygons are openings.
+use lib.IntN.{pos}
+use lib.Signed.{◌<ℤ◌}
+use Prim.Native.Nat.{ℕ, zero, suc, ◌+◌, ◌*◌, ◌-◌, ◌^◌, ◌≤◌, ◌<◌}
+use mathlib.Core.Path.{refl}
+use mathlib.Core.Logic.{◌≢◌}
+use mathlib.Core.List.{List, [], ◌∷◌, map}
+use native.Mathlib.Omega.{arith}
+use Rattle.std.proofs.lemmas.Int.{ints}
+use Rattle.std.proofs.lemmas.List.Elements.{All-from_recursion}
+use Rattle.std.specs.List.{IsDistinct}
+use Rattle.grid_geom.specs.declared.Point.{Point}
+use Rattle.grid_geom.specs.Area.{shoelace}
+use Rattle.grid_geom.specs.Bounds.{IsOnGrid, IsWithin}
+use Rattle.grid_geom.specs.Plane.{orient}
+use Rattle.grid_geom.specs.Polygon.{sides, corner_at, after, IsStrictlyConvex}
+use Rattle.grid_geom.proofs.Convex.{triangle_convex}
+use Rattle.state_law.specs.State.{IsNumbered, pair_edge}
+use Rattle.state_law.specs.Worked.{place}
+use Rattle.state_law.proofs.OnePolygon.{polygon_kept}
+use Rattle.state_law.proofs.Region.{region_of}
+use Rattle.front_chain.specs.Front.{IsOpening, numbered_from, or_zero}
+
+-- ---- places
+zero_within : IsWithin (pos 1048576) (pos 0)
+zero_within = record { least = omega (arith, ints); greatest = omega (arith, ints) }
+
+within : (n : ℕ) → n ≤ 1048576 → IsWithin (pos 1048576) (pos n)
+within n h = record { least = omega (arith, ints); greatest = omega (arith, ints, h) }
+
+on_grid : (x y : ℕ) → x ≤ 1048576 → y ≤ 1048576 → IsOnGrid (place x y)
+on_grid x y h i = record { x_within = within x h; y_within = within y i }
+
+-- ---- a square
+abbrev square : List Point
+square = place 0 0 ∷ place 640000 0 ∷ place 640000 640000 ∷ place 0 640000 ∷ []
+
+abbrev square_lines : List (ℕ × ℕ)
+square_lines = (1, 2) ∷ (2, 3) ∷ (3, 4) ∷ (4, 1) ∷ []
+
+turned : pos 0 <ℤ pos 409600000000
+turned = omega (arith, ints)
+
+square_convex : IsStrictlyConvex square
+square_convex = record { enough = omega arith; left = corner }
+  where
+    corner : (i : ℕ) → i < 4 → (j : ℕ) → j < 4 → j ≢ i → j ≢ after square i → pos 0 <ℤ orient (corner_at square i) (corner_at square (after square i)) (corner_at square j)
+    corner zero hi zero hj n m = absurd (n refl)
+    corner zero hi (suc zero) hj n m = absurd (m refl)
+    corner zero hi (suc (suc zero)) hj n m = turned
+    corner zero hi (suc (suc (suc zero))) hj n m = turned
+    corner (suc zero) hi zero hj n m = turned
+    corner (suc zero) hi (suc zero) hj n m = absurd (n refl)
+    corner (suc zero) hi (suc (suc zero)) hj n m = absurd (m refl)
+    corner (suc zero) hi (suc (suc (suc zero))) hj n m = turned
+    corner (suc (suc zero)) hi zero hj n m = turned
+    corner (suc (suc zero)) hi (suc zero) hj n m = turned
+    corner (suc (suc zero)) hi (suc (suc zero)) hj n m = absurd (n refl)
+    corner (suc (suc zero)) hi (suc (suc (suc zero))) hj n m = absurd (m refl)
+    corner (suc (suc (suc zero))) hi zero hj n m = absurd (m refl)
+    corner (suc (suc (suc zero))) hi (suc zero) hj n m = turned
+    corner (suc (suc (suc zero))) hi (suc (suc zero)) hj n m = turned
+    corner (suc (suc (suc zero))) hi (suc (suc (suc zero))) hj n m = absurd (n refl)
+    corner i hi (suc (suc (suc (suc j)))) hj n m = absurd (omega (arith, hj))
+    corner (suc (suc (suc (suc i)))) hi j hj n m = absurd (omega (arith, hi))
+
+square_numbered : IsNumbered (record { points = square; front = numbered_from 1 square_lines; next = 5; elements = [] })
+unfolding IsDistinct
+square_numbered = record {
+  different = ((refl, (refl, (refl, tt))), ((refl, (refl, tt)), ((refl, tt), (tt, tt))));
+  lines_listed = (((omega arith, omega arith), (omega arith, omega arith)), (((omega arith, omega arith), (omega arith, omega arith)), (((omega arith, omega arith), (omega arith, omega arith)), (((omega arith, omega arith), (omega arith, omega arith)), tt))));
+}
+
+pub square_opens : IsOpening square square_lines
+square_opens = record {
+  numbered = square_numbered;
+  on_grid = All-from_recursion IsOnGrid square (on_grid 0 0 (omega arith) (omega arith), (on_grid 640000 0 (omega arith) (omega arith), (on_grid 640000 640000 (omega arith) (omega arith), (on_grid 0 640000 (omega arith) (omega arith), tt))));
+  region = region_of (sides square) (sides square) (sides square) [] (polygon_kept square square_convex);
+  bounded = omega arith;
+}
+
+-- ---- a triangle on the same line, with its third corner above the middle
+abbrev triangle : ℕ → List Point
+triangle height = place 0 0 ∷ place 640000 0 ∷ place 320000 height ∷ []
+
+abbrev triangle_lines : List (ℕ × ℕ)
+triangle_lines = (1, 2) ∷ (2, 3) ∷ (3, 1) ∷ []
+
+triangle_numbered : (height : ℕ) → IsNumbered (record { points = triangle height; front = numbered_from 1 triangle_lines; next = 4; elements = [] })
+unfolding IsDistinct
+triangle_numbered height = record {
+  different = ((refl, (refl, tt)), ((refl, tt), (tt, tt)));
+  lines_listed = (((omega arith, omega arith), (omega arith, omega arith)), (((omega arith, omega arith), (omega arith, omega arith)), (((omega arith, omega arith), (omega arith, omega arith)), tt)));
+}
+
+triangle_opens : (height : ℕ) → height ≤ 1048576 → pos 0 <ℤ orient (place 0 0) (place 640000 0) (place 320000 height) →
+    3 + 4 * or_zero (shoelace (map (pair_edge (triangle height)) triangle_lines)) ≤ 2 ^ 64 - 2 → IsOpening (triangle height) triangle_lines
+triangle_opens height h o b = record {
+  numbered = triangle_numbered height;
+  on_grid = All-from_recursion IsOnGrid (triangle height) (on_grid 0 0 (omega arith) (omega arith), (on_grid 640000 0 (omega arith) (omega arith), (on_grid 320000 height (omega arith) h, tt)));
+  region = region_of (sides (triangle height)) (sides (triangle height)) (sides (triangle height)) [] (polygon_kept (triangle height) (triangle_convex (place 0 0) (place 640000 0) (place 320000 height) o));
+  bounded = b;
+}
+
+low_turned : pos 0 <ℤ pos 192000000000
+low_turned = omega (arith, ints)
+
+pub low_opens : IsOpening (triangle 300000) triangle_lines
+low_opens = triangle_opens 300000 (omega arith) low_turned (omega arith)
+
+high_turned : pos 0 <ℤ pos 576000000000
+high_turned = omega (arith, ints)
+
+pub high_opens : IsOpening (triangle 900000) triangle_lines
+high_opens = triangle_opens 900000 (omega arith) high_turned (omega arith)

@@ -1,0 +1,16 @@
+use Rattle.std.proofs.Common.{◌≡◌, Result, Ok, Err, IfOk, sym, subst}
+use Rattle.mesh_run.specs.RunState.{RunState, GoesOn}
+use Rattle.mesh_run.proofs.GoesOn.{ended_run}
+use Rattle.mesh_run.proofs.all.run_domain.Goals as goal
+
+-- what is answered is x, of which P holds
+of_ok : {A E : Type 0} (P : A → Type 0) (x : A) (r : Result A E) → IfOk r (λ y. y ≡ x) → P x → IfOk r P
+of_ok P x (Ok y) e h = subst P (sym e) h
+of_ok P x (Err f) e h = tt
+
+pub returns-clause-run : goal.returns-clause-run
+returns-clause-run g c =
+    let ground = c.args.ground.now in let after = c.run.new.self in
+    of_ok _ _ c.into_domain_run.result c.into_domain_run.ensures.run
+    (ended_run ground.geometry.now ground.rules.now ground.options.now c.args.domain after c.in_ok-end.end
+    (subst (λ (r : RunState). GoesOn r after) c.in_ok-run.ensures c.in_ok-end.ensures.goes_on) c.in_ok-end.ensures.ended)

@@ -1,0 +1,57 @@
+use Rattle.std.proofs.Common.{List, [], ◌∷◌, ◌++◌, ◌<◌, sym, ap, ◌∙◌, subst}
+use Rattle.rule_match.specs.declared.application.Application.{Application}
+use Rattle.mesh_run.specs.declared.run.Run.TheInside.{Inside}
+use Rattle.mesh_run.specs.Steps.{IsNext}
+use Rattle.mesh_run.specs.RunState.{RunState, RunParts, setting_by, run_of, run_after, area_left}
+use Rattle.mesh_run.proofs.GoesOn.{IsPushed, may_be_put, put_run, put_holds, some_elements, area_falls}
+use Rattle.mesh_run.proofs.run.Run.apply.Goals as goal
+use Rattle.mesh_run.proofs.run.Run.apply.Goals.{After-push_reserved}
+
+abbrev parts : Inside → RunParts
+parts r = record {
+  domain = r.domain;
+  options = r.options;
+  sizes = r.sizes;
+  rules = r.rules.now;
+  opened = r.opened;
+  lines = r.lines;
+  front = r.front;
+  applications = r.applications.items;
+}
+
+pub put-requires-clause-may : goal.put-requires-clause-may
+put-requires-clause-may c =
+    let r = c.self.inside in let reserved = c.reserve-2.ensures in
+    let next = subst (λ (s : RunState). IsNext (setting_by s.basis) s.state c.args.application) (sym c.self.view_is) c.requires.next in
+    may_be_put r.sizes r.rules.now (run_of (parts r)).state c.reserve-2.new.self c.args.application c.get.result.now c.lines-lines.ensures.holds
+    (record { points = sym reserved.points; front = sym reserved.lines }) c.rule-rule.ensures.rule c.get.ensures next.best
+
+pushed : (c : After-push_reserved) → IsPushed (parts c.self.inside) c.args.application c.reserve-2.new.self c.put.new.front c.push_reserved.new.self.items
+pushed c = record {
+  equal = record { points = c.reserve-2.ensures.points; lines = c.reserve-2.ensures.lines; next = c.reserve-2.ensures.next };
+  put = record { points = c.put.ensures.points; lines = c.put.ensures.lines; next = c.put.ensures.next };
+  pushed = c.push_reserved.ensures.items ∙ ap (λ (items : List Application). items ++ c.args.application ∷ []) c.reserve.ensures.items;
+}
+
+pub invariant_of-self-2 : goal.invariant_of-self-2
+invariant_of-self-2 c =
+    let r = c.self.inside in let reserved = c.reserve-2.ensures in
+    let next = subst (λ (s : RunState). IsNext (setting_by s.basis) s.state c.args.application) (sym c.self.view_is) c.requires.next in
+    let may = may_be_put r.sizes r.rules.now (run_of (parts r)).state c.reserve-2.new.self c.args.application c.get.result.now c.lines-lines.ensures.holds
+    (record { points = sym reserved.points; front = sym reserved.lines }) c.rule-rule.ensures.rule c.get.ensures next.best in
+    put_holds (parts r) c.args.application c.reserve-2.new.self c.put.new.front c.push_reserved.new.self.items c.self.invariant next may (pushed c)
+
+pub returns-clause-applied : goal.returns-clause-applied
+returns-clause-applied c =
+    put_run (parts c.self.inside) c.args.application c.reserve-2.new.self c.put.new.front c.push_reserved.new.self.items c.self.invariant.grows (pushed c)
+    ∙ ap (λ (s : RunState). run_after s c.args.application) c.self.view_is
+
+pub returns-clause-falls : goal.returns-clause-falls
+returns-clause-falls c =
+    let r = c.self.inside in let reserved = c.reserve-2.ensures in
+    let next = subst (λ (s : RunState). IsNext (setting_by s.basis) s.state c.args.application) (sym c.self.view_is) c.requires.next in
+    let may = may_be_put r.sizes r.rules.now (run_of (parts r)).state c.reserve-2.new.self c.args.application c.get.result.now c.lines-lines.ensures.holds
+    (record { points = sym reserved.points; front = sym reserved.lines }) c.rule-rule.ensures.rule c.get.ensures next.best in
+    subst (λ (s : RunState). area_left (run_of (record (parts r) { front = c.put.new.front; applications = c.push_reserved.new.self.items })) < area_left s) c.self.view_is
+    (area_falls (parts r) c.args.application c.reserve-2.new.self c.put.new.front c.push_reserved.new.self.items c.lines-lines.ensures.holds (pushed c) may
+    (some_elements r.sizes r.rules.now (run_of (parts r)).state c.args.application next.best))

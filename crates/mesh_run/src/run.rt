@@ -1,0 +1,350 @@
+// The run of a domain by rules.
+ghost use Rattle.std.specs.Prelude.{◌≡◌, ◌<◌, ◌≤◌, ◌↔◌, length, IsTrue, IsSome, IfOk, IfSome, IfNone, OnOk, OnErr};
+ghost use Rattle.std.specs.List.{AllByRecursion, Contains};
+ghost use Rattle.geom_check.specs.Domains.{domain_numbers};
+ghost use Rattle.state_law.specs.State.{AreRising};
+ghost use Rattle.front_chain.specs.Front.{line_at, number_above};
+ghost use Rattle.admission.specs.Around.{IsThere};
+ghost use Rattle.rule_match.specs.Best.{IsBest};
+ghost use Rattle.rule_match.specs.Least.{HasNone};
+ghost use Rattle.mesh_run.specs.Mesh.{NamesItsPoints};
+ghost use Rattle.mesh_run.specs.Opening.{mesh_points};
+ghost use Rattle.mesh_run.specs.Runs.{pieces_by};
+ghost use Rattle.mesh_run.specs.Steps.{IsNext, NothingApplies, IsSpent};
+
+use super::applying::{copy_of, put};
+use super::ground::Ground;
+use super::left::{points_of, rows_of};
+use super::opening::{number_mesh, opening_of};
+use super::{Application, Applications, DomainRun, End, FrontRows, OpeningLines, Options, Stepped};
+use front_chain::Front;
+use geom_check::Geometry;
+use grid_geom::Points;
+use rule_maps::RuleSet;
+use rule_match::best;
+use size_field::{Pieces, Sizes, sizes_of};
+use std::alloc::{AllocError as OutOfMemory, Global};
+use std::marker::Model;
+use std::sync::ledger::Ledger;
+use steps::Steps;
+
+/// The run of a domain by rules, as far as it has come. It is seen as its basis, its applications so
+/// far, and the state that these have come to, which is that of the definition.
+#[derive(Drop)]
+pub struct Run<'a> {
+    domain: u32,
+    options: Options,
+    sizes: Sizes,
+    rules: &'a RuleSet<'a>,
+    // how many points were there at the opening, and the opening lines
+    opened: usize,
+    lines: OpeningLines,
+    front: Front,
+    applications: Vec<Application>,
+}
+
+impl<'a> Model for Run<'a> {
+    ghost use Rattle.mesh_run.specs.RunState.{RunState, IsRunState, run_of};
+
+    ghost Value = { RunState };
+
+    ghost view = { λ r. run_of (record {
+      domain = r.domain;
+      options = r.options;
+      sizes = r.sizes;
+      rules = r.rules.now;
+      opened = r.opened;
+      lines = r.lines;
+      front = r.front;
+      applications = r.applications.items;
+    }) };
+
+    ghost invariant = { λ r. IsRunState (run_of (record {
+      domain = r.domain;
+      options = r.options;
+      sizes = r.sizes;
+      rules = r.rules.now;
+      opened = r.opened;
+      lines = r.lines;
+      front = r.front;
+      applications = r.applications.items;
+    })) };
+}
+
+impl<'a> Run<'a> {
+    ghost use Rattle.mesh_run.specs.RunState.{IsStepped, DoesTakeArea, GoesOn, IsEndOfRun, IsFirstOfClass, IsClassSpent, AreOptions, area_left, domain_run, opened_run, setting_by, run_after};
+
+    /// The run of a domain before its first application.
+    pub fn open_on(
+        alloc: Global,
+        ground: &Ground<'_, 'a>,
+        domain: u32,
+    ) -> Result<Run<'a>, OutOfMemory>
+        requires domain { Contains (domain_numbers ground.now.geometry.now.segments) domain }
+        requires options { AreOptions ground.now.options.now }
+        requires pieces { ground.now.pieces.now
+            ≡ pieces_by ground.now.geometry.now ground.now.options.now }
+        requires mesh { ground.now.mesh.now ≡ mesh_points ground.now.pieces.now }
+        ensures { IfOk result (λ run. run ≡ opened_run ground.now.geometry.now ground.now.rules.now
+            ground.now.options.now domain) }
+    {
+        let geometry = ground.geometry;
+        let options = ground.options;
+        let segments = geometry.segments();
+        let opening = opening_of(
+            alloc,
+            domain,
+            segments,
+            ground.pieces.as_slice(),
+            ground.mesh,
+        )?;
+        let points = opening.points.as_slice();
+        let opened = points.len();
+        let front = Front::open(alloc, points, opening.lines.as_slice())?;
+        let (greatest, grading) = (options.greatest, options.grading);
+        let sizes = sizes_of(alloc, geometry, ground.pieces, domain, greatest, grading)?;
+        Ok(Run {
+            domain,
+            options: *options,
+            sizes,
+            rules: ground.rules,
+            opened,
+            lines: opening.lines,
+            front,
+            applications: Vec::new(alloc),
+        })
+    }
+
+    /// The run of a domain of the geometry before its first application.
+    ///
+    /// The pieces are those into which the options' sizes cut the geometry's segments, the options in
+    /// their ranges.
+    pub fn open(
+        alloc: Global,
+        pieces: &Pieces,
+        geometry: &Geometry,
+        rules: &'a RuleSet<'a>,
+        domain: u32,
+        options: &Options,
+    ) -> Result<Run<'a>, OutOfMemory>
+        requires domain { Contains (domain_numbers geometry.now.segments) domain }
+        requires options { AreOptions options.now }
+        requires pieces { pieces.now ≡ pieces_by geometry.now options.now }
+        ensures { IfOk result (λ run. run
+            ≡ opened_run geometry.now rules.now options.now domain) }
+    {
+        let mesh = number_mesh(alloc, pieces.as_slice())?.points(alloc)?;
+        let ground = Ground {
+            pieces,
+            mesh: &mesh,
+            geometry,
+            rules,
+            options,
+        };
+        Run::open_on(alloc, &ground, domain)
+    }
+
+    /// The application of the least candidate of a line at a class.
+    fn best_of_line<L: Ledger>(
+        &self,
+        alloc: Global,
+        class: u32,
+        line: u64,
+        steps: &mut Steps<L>,
+    ) -> Result<Option<Application>, OutOfMemory>
+        requires on_front { IsSome (line_at self.now.state.front line) }
+        requires first_class { 1 ≤ class }
+        requires last_class { class ≤ 16 }
+        ensures least { IfOk result
+            (λ found. IfSome found
+            (IsBest self.now.basis.sizes self.now.state self.now.basis.rules line class)) }
+        ensures none { IfOk result
+            (λ found. IfNone found
+            (HasNone self.now.basis.sizes self.now.state self.now.basis.rules line class)) }
+    {
+        best(
+            alloc,
+            &self.front,
+            &self.sizes,
+            self.rules,
+            line,
+            class,
+            steps,
+        )
+    }
+
+    /// The number of the first front line.
+    fn first_line(&self) -> Option<u64>
+        ensures value { result ≡ number_above self.now.state.front 0 }
+        ensures there { IsThere self.now.state.front result }
+        ensures rising { AreRising self.now.state.front self.now.state.next }
+        ensures positive { AllByRecursion (λ line. 1 ≤ line.0) self.now.state.front }
+    {
+        let _lines = self.front.lines();
+        self.front.next_line(0)
+    }
+
+    /// The number of the front line after this one.
+    fn next_line(&self, line: u64) -> Option<u64>
+        ensures value { result ≡ number_above self.now.state.front line }
+        ensures there { IsThere self.now.state.front result }
+    {
+        self.front.next_line(line)
+    }
+
+    /// The application of the least candidate at a class: that of the least line that has one.
+    fn best_of_class<L: Ledger>(
+        &self,
+        alloc: Global,
+        class: u32,
+        steps: &mut Steps<L>,
+    ) -> Result<Option<Application>, OutOfMemory>
+        requires first_class { 1 ≤ class }
+        requires last_class { class ≤ 16 }
+        ensures least { IfOk result
+            (λ found. IfSome found
+            (IsFirstOfClass (setting_by self.now.basis) self.now.state class)) }
+        ensures none { IfOk result
+            (λ found. IfNone found
+            (IsClassSpent (setting_by self.now.basis) self.now.state class)) }
+    {
+        let mut next = self.first_line();
+        while let Some(line) = next {
+            let found = self.best_of_line(alloc, class, line, steps)?;
+            if found.is_some() {
+                return Ok(found);
+            }
+            next = self.next_line(line);
+        }
+        Ok(None)
+    }
+
+    /// The application that comes next: that of the least class at which there is one.
+    fn next_application<L: Ledger>(
+        &self,
+        alloc: Global,
+        steps: &mut Steps<L>,
+    ) -> Result<Option<Application>, OutOfMemory>
+        ensures next { IfOk result
+            (λ found. IfSome found (IsNext (setting_by self.now.basis) self.now.state)) }
+        ensures none { IfOk result
+            (λ found. IfNone found (NothingApplies (setting_by self.now.basis) self.now.state)) }
+    {
+        for class in 1..self.options.last + 1 {
+            let found = self.best_of_class(alloc, class, steps)?;
+            if found.is_some() {
+                return Ok(found);
+            }
+        }
+        Ok(None)
+    }
+
+    /// Makes the application that comes next, and answers a copy of it. All memory is taken before the
+    /// run changes.
+    fn apply(&mut self, alloc: Global, application: Application) -> Result<Application, OutOfMemory>
+        requires next { IsNext (setting_by self.old.basis) self.old.state application }
+        ensures applied { OnOk result (self.new ≡ run_after self.old application) }
+        ensures copied { IfOk result (λ a. a ≡ application) }
+        ensures falls { OnOk result (area_left self.new < area_left self.old) }
+        ensures stands { OnErr result (self.new ≡ self.old) }
+    {
+        let copy = copy_of(alloc, &application)?;
+        self.applications.reserve(1)?;
+        let made = application.made.as_slice().len();
+        let elements = application.elements.as_slice().len();
+        self.front.reserve(made, elements)?;
+        // the front is as a front is, and the rule one that a reader gives: so the application may be put on it
+        let _lines = self.front.lines();
+        let _rule = self.rules.get(application.rule).rule();
+        put(&mut self.front, &application);
+        self.applications.push_reserved(application);
+        Ok(copy)
+    }
+
+    /// Makes the next application, or says that there is none: since no front is left, or since nothing
+    /// applies to the front that is. It doesn't look at the limit.
+    ///
+    /// Errors: want of memory, and then the run is as before.
+    pub fn step<L: Ledger>(
+        &mut self,
+        alloc: Global,
+        steps: &mut Steps<L>,
+    ) -> Result<Stepped, OutOfMemory>
+        ensures stepped { IfOk result (IsStepped self.old self.new) }
+        ensures falls { IfOk result (DoesTakeArea self.old self.new) }
+        ensures stands { OnErr result (self.new ≡ self.old) }
+    {
+        if self.front.lines() == 0 {
+            return Ok(Stepped::Done);
+        }
+        match self.next_application(alloc, steps)? {
+            None => Ok(Stepped::Stuck),
+            Some(application) => Ok(Stepped::Applied(self.apply(alloc, application)?)),
+        }
+    }
+
+    /// Whether as many applications were made as are allowed.
+    fn is_spent(&self) -> bool
+        ensures { IsTrue result ↔ IsSpent self.now.basis.options.limit
+            (length self.now.applications) }
+    {
+        match self.options.limit {
+            Some(limit) => limit <= self.applications.len() as u64,
+            None => false,
+        }
+    }
+
+    /// How the run ends that may make no further application: stopped only where there is one to make.
+    fn end_here<L: Ledger>(&self, alloc: Global, steps: &mut Steps<L>) -> Result<End, OutOfMemory>
+        requires { IsSpent self.now.basis.options.limit (length self.now.applications) }
+        ensures { IfOk result (IsEndOfRun self.now) }
+    {
+        if self.front.lines() == 0 {
+            return Ok(End::Done);
+        }
+        match self.next_application(alloc, steps)? {
+            Some(_) => Ok(End::Stopped),
+            None => Ok(End::Stuck),
+        }
+    }
+
+    /// Makes one application after another until no front is left, nothing applies, or as many were made
+    /// as are allowed. Each takes at least 1 from the front's doubled area, so it ends.
+    ///
+    /// Errors: want of memory, and then the run has gone on as far as memory went.
+    pub fn run<L: Ledger>(
+        &mut self,
+        alloc: Global,
+        steps: &mut Steps<L>,
+    ) -> Result<End, OutOfMemory>
+        ensures goes_on { GoesOn self.old self.new }
+        ensures ended { IfOk result (IsEndOfRun self.new) }
+    {
+        while !self.is_spent() {
+            match self.step(alloc, steps)? {
+                Stepped::Applied(_) => {}
+                Stepped::Done => return Ok(End::Done),
+                Stepped::Stuck => return Ok(End::Stuck),
+            }
+        }
+        self.end_here(alloc, steps)
+    }
+
+    /// What is kept of the run, with its end.
+    pub fn into_domain_run(self, alloc: Global, end: End) -> Result<DomainRun, OutOfMemory>
+        ensures run { IfOk result (λ run. run ≡ domain_run self.entry end) }
+        ensures names { OnOk result (NamesItsPoints (domain_run self.entry end)) }
+    {
+        let points = points_of(alloc, &self.front)?;
+        let front = rows_of(alloc, &self.front)?;
+        Ok(DomainRun {
+            domain: self.domain,
+            points: Points::from_vec(points),
+            opened: self.opened,
+            lines: self.lines,
+            applications: Applications::from_vec(self.applications),
+            front: FrontRows::from_vec(front),
+            end,
+        })
+    }
+}

@@ -1,0 +1,226 @@
+-- The search over the rules: each candidate of a line stands as an assignment that its rule's search passes, and what is found over all rules is the least.
+use Rattle.std.proofs.Common.{◌≡◌, ℕ, zero, suc, ◌+◌, ◌-◌, ◌<◌, ◌≤◌, true, false, List, [], ◌∷◌, map, length, slice_index_or, Option, None, Some, refl, sym, ap, ◌∙◌, subst, arith, inl, inr, ◌⊎◌}
+use Rattle.std.specs.Prelude.{slice_get, IfSome}
+use Rattle.std.specs.List.{AllZip, Contains}
+use Rattle.std.specs.Ordering.{is_gt}
+use Rattle.std.proofs.lemmas.Bool.{cases_order}
+use Rattle.std.proofs.lemmas.List.Elements.{length_all_zip}
+use Rattle.std.proofs.lemmas.Option.{slice_get_within, slice_get-get_or}
+use Rattle.grid_geom.specs.declared.Point.{Point}
+use Rattle.rule_reader.specs.declared.rule.Rule.{Rule}
+use Rattle.rule_maps.specs.Frame.{LocalFrame, IsFrameOf}
+use Rattle.rule_maps.specs.declared.inert.Inert.{Inert}
+use Rattle.rule_maps.specs.declared.inert.Inert.TheVariants.{Unbalanced, BaseKept, NoElement, IdlePoint, BadZone}
+use Rattle.rule_maps.specs.Inert.{IsLive, HasState}
+use Rattle.rule_maps.proofs.Frames.{one_frame}
+use Rattle.size_field.specs.Size.{SizeField, size_at}
+use Rattle.state_law.specs.State.{State, point_at, AreRising}
+use Rattle.front_chain.specs.Front.{FrontState, line_at, state_of}
+use Rattle.rule_match.specs.declared.found.Found.{Found}
+use Rattle.rule_match.specs.declared.near.NearPoint.{NearPoint}
+use Rattle.rule_match.specs.declared.progress.Progress.{Progress}
+use Rattle.rule_match.specs.declared.application.Application.{Application}
+use Rattle.rule_match.specs.Applied.{application}
+use Rattle.rule_match.specs.Best.{IsBest}
+use Rattle.rule_match.specs.Order.{IsNoWorse}
+use Rattle.rule_match.specs.Candidate.{Attempt, IsCandidate}
+use Rattle.rule_match.specs.Least.{IsOf, IsLeast, HasNone, rank}
+use Rattle.rule_match.specs.Fitting.{fits_so_far}
+use Rattle.rule_match.specs.Trying.{near_at, ties}
+use Rattle.rule_match.specs.Around.{IsTried, StandFor, setting_of}
+use Rattle.rule_match.specs.Base.{BaseLine, IsBaseLine, IsBaseOf, IsFramed, Tried, attempt_of, numbers_at, setting_at}
+use Rattle.rule_match.specs.Passed.{IsPassed, IsOn, IsFind, IsFindIfAny, IsLeastSoFar, Holds, rank_of, state_at}
+use Rattle.rule_match.proofs.Advances.{no_worse_same, no_worse_chain}
+use Rattle.rule_match.proofs.Gathered.{line_numbered}
+use Rattle.rule_match.proofs.Tried.{tried}
+
+-- ---- an attempt on the base line is one of its rule's assignments
+numbers_are : (near : List NearPoint) (b ns : List ℕ) → StandFor near b ns → numbers_at near b ≡ ns
+numbers_are near [] [] h = refl
+numbers_are near [] (n ∷ ns) h = absurd h
+numbers_are near (k ∷ b) [] h = absurd h
+numbers_are near (k ∷ b) (n ∷ ns) h = λ i. h.0.1 i ∷ numbers_are near b ns h.1 i
+
+as_long : (near : List NearPoint) (b ns : List ℕ) → StandFor near b ns → length b ≡ length ns
+as_long near [] [] h = refl
+as_long near [] (n ∷ ns) h = absurd h
+as_long near (k ∷ b) [] h = absurd h
+as_long near (k ∷ b) (n ∷ ns) h = ap suc (as_long near b ns h.1)
+
+-- an assignment that stands for the attempt
+record HasAssignment (tried : Tried) (t : Attempt) : Type 0 where
+  assignment : List ℕ
+  same : attempt_of tried assignment ≡ t
+  counted : length assignment ≡ length tried.rule.points
+  fits : fits_so_far (ties (setting_at tried)) assignment ≡ true
+
+assigned : (base : BaseLine) (rules : List Rule) (t : Attempt) → IsBaseLine base → IsOn base rules t → IsCandidate (state_at base) t → HasAssignment (record { base = base; number = t.rule; rule = t.text }) t
+assigned base rules t line on c =
+    let u : Attempt = record { class = base.class; line = base.line; frame = base.frame; rule = t.rule; text = t.text; points = t.points } in
+    let same : t ≡ u = λ i. record { class = on.class i; line = on.line i; frame = on.frame i; rule = t.rule; text = t.text; points = t.points } in
+    let found = tried (state_at base) u base.near base.lines line.surrounded.around (subst (IsCandidate (state_at base)) same c) in
+    let numbers : numbers_at base.near found.assignment ≡ t.points = numbers_are base.near found.assignment t.points found.stands in
+    record {
+      assignment = found.assignment;
+      same = ap (λ (ns : List ℕ). record { class = base.class; line = base.line; frame = base.frame; rule = t.rule; text = t.text; points = ns }) numbers ∙ sym same;
+      counted = as_long base.near found.assignment t.points found.stands ∙ c.counted;
+      fits = found.fits;
+    }
+
+-- ---- rule after rule
+pub none_so_far : (b : BaseLine) (rules : List Rule) → IsLeastSoFar b rules 0 None
+none_so_far b rules = record { found = tt; least = λ t on few c. absurd (no_rule t.rule on.first few) }
+  where
+    no_rule : (n : ℕ) → 1 ≤ n → n ≤ 0 → ⊥
+    no_rule n h k = omega (arith, h, k)
+
+-- a rule number up to k + 1 is one up to k, or k + 1
+before_or_last : (n k : ℕ) → n ≤ k + 1 → (n ≤ k) ⊎ (n ≡ k + 1)
+before_or_last n k h = grind arith
+
+text_at : (rules : List Rule) (n k : ℕ) (text rule : Rule) → n ≡ k + 1 → slice_get rules (n - 1) ≡ Some text → slice_get rules k ≡ Some rule → text ≡ rule
+text_at rules n k text rule e h is =
+    let back : n - 1 ≡ k = omega (arith, e) in
+    ap (or_other text) (sym h ∙ ap (slice_get rules) back ∙ is)
+  where
+    or_other : Rule → Option Rule → Rule
+    or_other x None = x
+    or_other x (Some z) = z
+
+-- a rule that never applies at the class changes nothing
+pub skipped : (b : BaseLine) (rules : List Rule) (k : ℕ) (rule : Rule) (best : Option Found) → slice_get rules k ≡ Some rule → (IsLive rule → rule.quality ≤ b.class → ⊥) → IsLeastSoFar b rules k best → IsLeastSoFar b rules (k + 1) best
+skipped b rules k rule best is never so_far = record { found = so_far.found; least = λ t on few c. by t on c (before_or_last t.rule k few) }
+  where
+    by : (t : Attempt) → IsOn b rules t → IsCandidate (state_at b) t → (t.rule ≤ k) ⊎ (t.rule ≡ k + 1) → IsNoWorse best (Some (rank (state_at b) t))
+    by t on c (inl few) = so_far.least t on few c
+    by t on c (inr e) =
+        let same : t.text ≡ rule = text_at rules t.rule k t.text rule e on.is_rule is in
+        absurd (never (subst IsLive same c.live) (subst (λ (n : ℕ). rule.quality ≤ n) on.class (subst (λ (r : Rule). r.quality ≤ t.class) same c.quality)))
+
+-- a rule that is passed
+pub passed : (b : BaseLine) (rules : List Rule) (k : ℕ) (rule : Rule) (old new : Progress) → IsBaseLine b → slice_get rules k ≡ Some rule → IsPassed (record { base = b; number = k + 1; rule = rule }) old new
+    → IsLeastSoFar b rules k old.best → IsLeastSoFar b rules (k + 1) new.best
+passed b rules k rule old new line is p so_far = record { found = kept new.best p.advance.from; least = λ t on few c. by t on c (before_or_last t.rule k few) }
+  where
+    here : Tried
+    here = record { base = b; number = k + 1; rule = rule }
+
+    mine : (a : List ℕ) → IsCandidate (state_of b.front) (attempt_of (record { base = b; number = k + 1; rule = rule }) a) → (r : Found) → r ≡ rank (state_of b.front) (attempt_of (record { base = b; number = k + 1; rule = rule }) a) → IsFind b rules r
+    mine a c r e =
+        let back : k + 1 - 1 ≡ k = omega arith in
+        record { attempt = attempt_of (record { base = b; number = k + 1; rule = rule }) a; on = record { class = refl; line = refl; frame = refl; first = omega arith; is_rule = ap (slice_get rules) back ∙ is }; candidate = c; is = e }
+
+    kept : (o : Option Found) → Rattle.rule_match.specs.Walk.IsFrom (Holds (record { base = b; number = k + 1; rule = rule })) (rank_of (record { base = b; number = k + 1; rule = rule })) old.best o → IsFindIfAny b rules o
+    kept None f = tt
+    kept (Some r) (inl e) = subst (IsFindIfAny b rules) e so_far.found
+    kept (Some r) (inr f) = mine f.0 f.1 r f.2
+
+    by : (t : Attempt) → IsOn b rules t → IsCandidate (state_at b) t → (t.rule ≤ k) ⊎ (t.rule ≡ k + 1) → IsNoWorse new.best (Some (rank (state_at b) t))
+    by t on c (inl few) = no_worse_chain new.best old.best (Some (rank (state_at b) t)) p.advance.no_worse (so_far.least t on few c)
+    by t on c (inr e) =
+        let same : t.text ≡ rule = text_at rules t.rule k t.text rule e on.is_rule is in
+        let those : IsPassed (record { base = b; number = t.rule; rule = t.text }) old new = subst (λ (n : ℕ). IsPassed (record { base = b; number = n; rule = t.text }) old new) (sym e) (subst (λ (r : Rule). IsPassed (record { base = b; number = k + 1; rule = r }) old new) (sym same) p) in
+        let a = assigned b rules t line on c in
+        subst (λ (u : Attempt). IsNoWorse new.best (Some (rank (state_at b) u))) a.same
+        (those.least a.assignment a.counted a.fits (subst (IsCandidate (state_at b)) (sym a.same) c))
+
+-- the rule with a number from 1
+before_number : (n : ℕ) → 1 ≤ n → n - 1 + 1 ≡ n
+before_number n h = omega (arith, h)
+
+rule_is : (rules : List Rule) (n : ℕ) (rule : Rule) → 1 ≤ n → n ≤ length rules → ((d : Rule) → slice_index_or rules (n - 1) d ≡ rule) → slice_get rules (n - 1) ≡ Some rule
+rule_is rules n rule h k is = slice_get-get_or rules (n - 1) rule (omega (arith, h, k)) ∙ ap Some (is rule)
+
+pub skipped_at : (b : BaseLine) (rules : List Rule) (n : ℕ) (rule : Rule) (best : Option Found) → 1 ≤ n → n ≤ length rules → ((d : Rule) → slice_index_or rules (n - 1) d ≡ rule) → (IsLive rule → rule.quality ≤ b.class → ⊥)
+    → IsLeastSoFar b rules (n - 1) best → IsLeastSoFar b rules n best
+skipped_at b rules n rule best h k is never so_far =
+    subst (λ (m : ℕ). IsLeastSoFar b rules m best) (before_number n h) (skipped b rules (n - 1) rule best (rule_is rules n rule h k is) never so_far)
+
+pub passed_at : (b : BaseLine) (rules : List Rule) (n : ℕ) (rule : Rule) (old new : Progress) → 1 ≤ n → n ≤ length rules → ((d : Rule) → slice_index_or rules (n - 1) d ≡ rule) → IsBaseLine b
+    → IsPassed (record { base = b; number = n; rule = rule }) old new → IsLeastSoFar b rules (n - 1) old.best → IsLeastSoFar b rules n new.best
+passed_at b rules n rule old new h k is line p so_far =
+    subst (λ (m : ℕ). IsLeastSoFar b rules m new.best) (before_number n h)
+    (passed b rules (n - 1) rule old new line (rule_is rules n rule h k is) (subst (λ (m : ℕ). IsPassed (record { base = b; number = m; rule = rule }) old new) (sym (before_number n h)) p) so_far)
+
+-- a rule that has a state is not live
+pub inert_never : (r : Rule) (i : Inert) → HasState r (Some i) → IsLive r → ⊥
+inert_never r Unbalanced h l = h l.balanced
+inert_never r BaseKept h l = l.base_leaves h.1
+inert_never r NoElement h l = l.some_element h.2
+inert_never r IdlePoint h l = l.none_idle h.3
+inert_never r BadZone h l = l.good_zone h.4
+
+-- ---- attempts on the base line are those on the line at the class
+one_line : (lines : List (ℕ × ℕ × ℕ)) (next : ℕ) (l m : ℕ × ℕ × ℕ) → AreRising lines next → Contains lines l → Contains lines m → l.0 ≡ m.0 → l ≡ m
+one_line lines next l m rising h k e =
+    let first = line_numbered lines next h.0 l l rising h.1 h.2 in let second = line_numbered lines next k.0 m m rising k.1 k.2 in
+    let ends : Some (l.1, l.2) ≡ Some (m.1, m.2) = sym first ∙ ap (line_at lines) e ∙ second in
+    λ i. (e i, ap (λ o. (or_none o).0) ends i, ap (λ o. (or_none o).1) ends i)
+  where
+    or_none : Option (ℕ × ℕ) → ℕ × ℕ
+    or_none None = (0, 0)
+    or_none (Some z) = z
+
+-- the frame of a line at the size at its middle is one
+pub same_frame : (p q : Point) (sizes : SizeField) (f g : LocalFrame) → IsFrameOf p q (size_at sizes f.middle) f → IsFrameOf p q (size_at sizes g.middle) g → f ≡ g
+same_frame p q sizes f g h k =
+    let same : f.middle ≡ g.middle = λ i. record { x = (h.middle_x ∙ sym k.middle_x) i; y = (h.middle_y ∙ sym k.middle_y) i } in
+    one_frame p q (size_at sizes g.middle) f g (subst (λ (m : Point). IsFrameOf p q (size_at sizes m) f) same h) k
+
+on_base : (sizes : SizeField) (f : FrontState) (rules : List Rule) (line class : ℕ) (b : BaseLine) (t : Attempt) → IsBaseOf sizes f line class b → IsOf sizes (state_of f) rules line class t → IsOn b rules t
+on_base sizes f rules line class b t is of =
+    let front : Contains f.lines b.line = subst (λ (g : FrontState). Contains g.lines b.line) is.front is.base.on_front in
+    let rising : AreRising f.lines f.next = subst (λ (g : FrontState). AreRising g.lines g.next) is.front is.base.front.rising in
+    let lines : t.line ≡ b.line = one_line f.lines f.next t.line b.line rising of.on_front front (of.same_line ∙ sym is.number) in
+    let framed : IsFrameOf (point_at f.points b.line.1) (point_at f.points b.line.2) (size_at sizes t.frame.middle) t.frame =
+    subst (λ (l : ℕ × ℕ × ℕ). IsFrameOf (point_at f.points l.1) (point_at f.points l.2) (size_at sizes t.frame.middle) t.frame) lines of.framed in
+    record {
+      class = of.same_class ∙ sym is.same_class;
+      line = lines;
+      frame = same_frame (point_at f.points b.line.1) (point_at f.points b.line.2) sizes t.frame b.frame framed is.framed;
+      first = of.numbered;
+      is_rule = of.is_rule;
+    }
+
+of_line : (sizes : SizeField) (f : FrontState) (rules : List Rule) (line class : ℕ) (b : BaseLine) (t : Attempt) → IsBaseOf sizes f line class b → IsOn b rules t → IsOf sizes (state_of f) rules line class t
+of_line sizes f rules line class b t is on = record {
+  on_front = subst (Contains f.lines) (sym on.line) (subst (λ (g : FrontState). Contains g.lines b.line) is.front is.base.on_front);
+  same_line = ap (λ (l : ℕ × ℕ × ℕ). l.0) on.line ∙ is.number;
+  framed = subst (λ (l : ℕ × ℕ × ℕ). IsFrameOf (point_at f.points l.1) (point_at f.points l.2) (size_at sizes t.frame.middle) t.frame) (sym on.line)
+      (subst (λ (g : LocalFrame). IsFrameOf (point_at f.points b.line.1) (point_at f.points b.line.2) (size_at sizes g.middle) g) (sym on.frame) is.framed);
+  same_class = on.class ∙ is.same_class;
+  numbered = on.first;
+  is_rule = on.is_rule;
+}
+
+-- ---- over all rules
+all_rules : (rules : List Rule) (t : Attempt) (text : Rule) → 1 ≤ t.rule → slice_get rules (t.rule - 1) ≡ Some text → t.rule ≤ length rules
+all_rules rules t text first is = omega (arith, first, slice_get_within rules (t.rule - 1) text is)
+
+pub none_found : (sizes : SizeField) (f : FrontState) (rules : List Rule) (line class : ℕ) (b : BaseLine) → IsBaseOf sizes f line class b → IsLeastSoFar b rules (length rules) None → HasNone sizes (state_of f) rules line class
+none_found sizes f rules line class b is so_far = record {
+  none = λ t of c.
+      let on = on_base sizes f rules line class b t is of in
+      so_far.least t on (all_rules rules t t.text on.first on.is_rule) (subst (λ (g : FrontState). IsCandidate (state_of g) t) (sym is.front) c);
+}
+
+least_found : (sizes : SizeField) (f : FrontState) (rules : List Rule) (line class : ℕ) (b : BaseLine) (t : Attempt) (found : Found) → IsBaseOf sizes f line class b → IsLeastSoFar b rules (length rules) (Some found)
+    → IsOn b rules t → IsCandidate (state_at b) t → found ≡ rank (state_at b) t → IsLeast sizes (state_of f) rules line class t
+least_found sizes f rules line class b t found is so_far on c same =
+    subst (λ (g : FrontState). IsLeast sizes (state_of g) rules line class t) is.front record {
+      of = subst (λ (g : FrontState). IsOf sizes (state_of g) rules line class t) (sym is.front) (of_line sizes f rules line class b t is on);
+      candidate = c;
+      least = λ other of d.
+          let there = on_base sizes f rules line class b other is (subst (λ (g : FrontState). IsOf sizes (state_of g) rules line class other) is.front of) in
+          subst (λ (r : Found). IsNoWorse (Some r) (Some (rank (state_at b) other))) same (so_far.least other there (all_rules rules other other.text there.first there.is_rule) d);
+    }
+
+pub best_of : (sizes : SizeField) (f : FrontState) (rules : List Rule) (line class : ℕ) (b : BaseLine) (found : Found) (a : Application) → IsBaseOf sizes f line class b → IsLeastSoFar b rules (length rules) (Some found)
+    → ((t : Attempt) → IsOn b rules t → IsCandidate (state_at b) t → found ≡ rank (state_at b) t → a ≡ application (state_at b) t) → IsBest sizes (state_of f) rules line class a
+best_of sizes f rules line class b found a is so_far gives =
+    let find : IsFind b rules found = so_far.found in let t = find.attempt in
+    record {
+      attempt = t;
+      least = least_found sizes f rules line class b t found is so_far find.on find.candidate find.is;
+      gives = gives t find.on find.candidate find.is ∙ ap (λ (g : FrontState). application (state_of g) t) is.front;
+    }

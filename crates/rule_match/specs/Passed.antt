@@ -1,0 +1,65 @@
+-- What a search over the rules owes: of one rule on a base line, and of all rules so far.
+--
+-- IsPassed       a rule is passed: what is found isn't after any of its candidates on the base
+--                line, and is no other
+-- IsOn           an attempt on the base line by a rule of the list
+-- IsFind         what is found is such an attempt, and a candidate
+-- IsLeastSoFar   what is found is the least of the candidates by the first so many rules
+use Rattle.std.specs.Prelude.{◌≡◌, ℕ, ◌-◌, ◌≤◌, List, length, true, Option, None, Some, slice_get}
+use Rattle.rule_reader.specs.declared.rule.Rule.{Rule}
+use Rattle.state_law.specs.State.{State}
+use Rattle.front_chain.specs.Front.{state_of}
+use Rattle.rule_match.specs.declared.found.Found.{Found}
+use Rattle.rule_match.specs.declared.progress.Progress.{Progress}
+use Rattle.rule_match.specs.Order.{IsNoWorse}
+use Rattle.rule_match.specs.Candidate.{Attempt, IsCandidate}
+use Rattle.rule_match.specs.Least.{rank}
+use Rattle.rule_match.specs.Walk.{IsAdvance}
+use Rattle.rule_match.specs.Fitting.{fits_so_far}
+use Rattle.rule_match.specs.Trying.{ties}
+use Rattle.rule_match.specs.Base.{BaseLine, Tried, attempt_of, setting_at}
+
+-- the state of the front of a base line
+abbrev pub state_at : BaseLine → State
+state_at b = state_of b.front
+
+-- the assignment stands for a candidate, and what it is
+abbrev pub Holds : Tried → List ℕ → Type 0
+Holds t b = IsCandidate (state_at t.base) (attempt_of t b)
+
+abbrev pub rank_of : Tried → List ℕ → Found
+rank_of t b = rank (state_at t.base) (attempt_of t b)
+
+-- the rule is passed on the base line: what is found was found before, or is a candidate by the
+-- rule; and it isn't after any candidate by the rule
+pub record IsPassed (t : Tried) (old new : Progress) : Type 0 where
+  pub advance : IsAdvance (Holds t) (rank_of t) old new
+  pub least : (b : List ℕ) → length b ≡ length t.rule.points
+      → fits_so_far (ties (setting_at t)) b ≡ true → Holds t b
+      → IsNoWorse new.best (Some (rank_of t b))
+
+-- an attempt on the base line by a rule of the list
+pub record IsOn (b : BaseLine) (rules : List Rule) (t : Attempt) : Type 0 where
+  pub class : t.class ≡ b.class
+  pub line : t.line ≡ b.line
+  pub frame : t.frame ≡ b.frame
+  pub first : 1 ≤ t.rule
+  pub is_rule : slice_get rules (t.rule - 1) ≡ Some t.text
+
+-- the find is of a candidate on the base line
+pub record IsFind (b : BaseLine) (rules : List Rule) (found : Found) : Type 0 where
+  pub attempt : Attempt
+  pub on : IsOn b rules attempt
+  pub candidate : IsCandidate (state_at b) attempt
+  pub is : found ≡ rank (state_at b) attempt
+
+-- where something is found, it is of a candidate
+abbrev pub IsFindIfAny : BaseLine → List Rule → Option Found → Type 0
+IsFindIfAny b rules None = Unit {0}
+IsFindIfAny b rules (Some found) = IsFind b rules found
+
+-- what is found is the least of the candidates on the base line by the first k rules
+pub record IsLeastSoFar (b : BaseLine) (rules : List Rule) (k : ℕ) (best : Option Found) : Type 0 where
+  pub found : IsFindIfAny b rules best
+  pub least : (t : Attempt) → IsOn b rules t → t.rule ≤ k → IsCandidate (state_at b) t
+      → IsNoWorse best (Some (rank (state_at b) t))

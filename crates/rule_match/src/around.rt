@@ -1,0 +1,176 @@
+//! The surroundings of a base line on a front: the front points in range, and the front lines that begin
+//! at them.
+//!
+//! 1. Only lines whose boxes meet the box of all points in range are looked at.
+//! 2. Each front point is the start of a line, and of several where parts of the front touch. So the
+//!    starts are sorted, and each is taken once.
+
+ghost use Rattle.std.specs.Prelude.{◌≡◌, ◌↔◌, ℕ, ◌≤◌, ◌^◌, ◌+ℤ◌, ◌-ℤ◌, ◌*ℤ◌, pos, true, nat_eq, map, length, IfOk, OnOk, Contains, is_some};
+ghost use Rattle.std.specs.Int.RustNames.{unsigned_abs};
+ghost use Rattle.std.specs.List.{All};
+ghost use Rattle.std.specs.List.Sorted.{IsStrictlyIncreasing};
+ghost use Rattle.grid_geom.specs.declared.Point.{Point as AnyPoint};
+ghost use Rattle.grid_geom.specs.Bounds.{IsOnGrid};
+ghost use Rattle.rule_maps.specs.Frame.{IsInRange};
+ghost use Rattle.state_law.specs.State.{IsListed, point_at};
+ghost use Rattle.front_chain.specs.Front.{line_at, state_of};
+ghost use Rattle.admission.specs.Around.{IsInBounds};
+ghost use Rattle.rule_match.specs.Around.{IsSurrounding, near_of, IsStartNear, HasStartsNear, IsAdded};
+
+use super::near::NearPoint;
+use front_chain::Front;
+use grid_geom::{Bounds, Point};
+use rule_maps::Frame;
+use std::alloc::{AllocError, Global};
+
+/// The front points in range of a base line, and the front lines that begin at them.
+#[derive(Debug, Drop)]
+pub(crate) struct Surroundings {
+    pub near: Vec<NearPoint>,
+    pub lines: Vec<(u64, u64)>,
+}
+
+/// How far points in range may be from the line's middle, in each coordinate.
+fn range_of(frame: &Frame) -> i64
+    ensures value { result ≡ pos 4 *ℤ frame.now.h }
+    ensures small { unsigned_abs result ≤ 2 ^ 23 }
+{
+    4 * frame.h() as i64
+}
+
+fn less(a: &i64, b: &i64) -> i64
+    requires a { unsigned_abs a.now ≤ 2 ^ 23 }
+    requires b { unsigned_abs b.now ≤ 2 ^ 23 }
+    ensures { result ≡ a.now -ℤ b.now }
+{
+    a - b
+}
+
+fn plus(a: &i64, b: &i64) -> i64
+    requires a { unsigned_abs a.now ≤ 2 ^ 23 }
+    requires b { unsigned_abs b.now ≤ 2 ^ 23 }
+    ensures { result ≡ a.now +ℤ b.now }
+{
+    a + b
+}
+
+/// The box of all points in range.
+fn range_box(frame: &Frame) -> Bounds
+    ensures { (p : AnyPoint) → IsInRange frame.now p → IsInBounds result p }
+{
+    let (middle, far) = (frame.middle(), range_of(frame));
+    Bounds {
+        lo: Point {
+            x: less(&middle.x, &far),
+            y: less(&middle.y, &far),
+        },
+        hi: Point {
+            x: plus(&middle.x, &far),
+            y: plus(&middle.y, &far),
+        },
+    }
+}
+
+/// Adds the front line with the number, if its start is in range.
+fn add_line(
+    lines: &mut Vec<(u64, u64)>,
+    front: &Front,
+    frame: &Frame,
+    number: u64,
+) -> Result<(), AllocError>
+    requires { is_some (line_at front.now.lines number) ≡ true }
+    ensures { OnOk result
+        (IsAdded front.now frame.now number lines.old.items lines.new.items) }
+{
+    let _points = front.points();
+    let ends = front.line(number).unwrap();
+    if frame.is_in_range(front.point(ends.0)) {
+        lines.push(ends)?;
+    }
+    Ok(())
+}
+
+/// The front lines that begin in range.
+fn lines_around(alloc: Global, front: &Front, frame: &Frame) -> Result<Vec<(u64, u64)>, AllocError>
+    ensures only { IfOk result
+        (λ v. All (IsStartNear (state_of front.now) frame.now) v.items) }
+    ensures all { IfOk result (λ v. HasStartsNear (state_of front.now) frame.now v.items) }
+{
+    let _lines = front.lines();
+    let near = range_box(frame);
+    let mut lines = Vec::new(alloc);
+    let mut at = front.first_near(&near);
+    while let Some(here) = at {
+        add_line(&mut lines, front, frame, here.line)?;
+        at = front.next_near(&near, &here);
+    }
+    Ok(lines)
+}
+
+/// The starts of the lines, each once, rising.
+fn starts_of(alloc: Global, lines: &[(u64, u64)]) -> Result<Vec<u64>, AllocError>
+    ensures rising { IfOk result (λ v. IsStrictlyIncreasing v.items) }
+    ensures starts { IfOk result
+        (λ v. (n : ℕ) → Contains v.items n ↔ Contains (map (λ line. line.0) lines.now) n) }
+{
+    let mut numbers = Vec::with_capacity(alloc, lines.len())?;
+    for line in lines {
+        numbers.push(line.0)?;
+    }
+    numbers.sort_unstable();
+    numbers.dedup();
+    Ok(numbers)
+}
+
+/// The near point with the number.
+fn near_point(front: &Front, frame: &Frame, number: u64) -> NearPoint
+    requires listed { IsListed (length front.now.points) number }
+    requires range { IsInRange frame.now (point_at front.now.points number) }
+    ensures value { result ≡ near_of front.now.points frame.now number }
+    ensures on_grid { IsOnGrid result.at }
+{
+    let _start = frame.p1();
+    let at = front.point(number);
+    let (x, y) = frame.local4(at);
+    NearPoint {
+        number,
+        at,
+        x: x as i32,
+        y: y as i32,
+    }
+}
+
+/// The near points with these numbers.
+fn near_points(
+    alloc: Global,
+    front: &Front,
+    frame: &Frame,
+    numbers: &[u64],
+) -> Result<Vec<NearPoint>, AllocError>
+    requires listed { All (IsListed (length front.now.points)) numbers.now }
+    requires range { All (λ n. IsInRange frame.now (point_at front.now.points n)) numbers.now }
+    ensures value { IfOk result
+        (λ v. v.items ≡ map (near_of front.now.points frame.now) numbers.now) }
+{
+    let mut near = Vec::with_capacity(alloc, numbers.len())?;
+    for number in numbers {
+        near.push(near_point(front, frame, *number))?;
+    }
+    Ok(near)
+}
+
+/// The surroundings of a base line.
+pub(crate) fn surroundings_of(
+    alloc: Global,
+    front: &Front,
+    frame: &Frame,
+) -> Result<Surroundings, AllocError>
+    ensures { IfOk result
+        (λ a. IsSurrounding (state_of front.now) frame.now a.near.items a.lines.items) }
+{
+    let _points = front.points();
+    let lines = lines_around(alloc, front, frame)?;
+    let starts = starts_of(alloc, &lines)?;
+    let near = near_points(alloc, front, frame, &starts)?;
+    Ok(Surroundings { near, lines })
+}

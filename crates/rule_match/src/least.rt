@@ -1,0 +1,152 @@
+//! The least candidate of a line at a class, over all live rules of quality at most the class.
+//!
+//! 1. The base line's frame and its surroundings are the same for all rules, and are gathered once.
+//! 2. Rule after rule is passed: what is found is the least of the candidates by the rules so far, so a
+//!    find that comes after it is never judged.
+
+ghost use Rattle.std.specs.Prelude.{◌≡◌, ◌+◌, ◌-◌, ◌≤◌, length, true, false, IsSome, IfOk, IfSome, IfNone, OnOk};
+ghost use Rattle.std.specs.List.{AllByRecursion};
+ghost use Rattle.state_law.specs.State.{IsListed, corners_of};
+ghost use Rattle.rule_maps.specs.Inert.{IsLive};
+ghost use Rattle.front_chain.specs.Front.{line_at, state_of};
+ghost use Rattle.rule_match.specs.Candidate.{Attempt, IsCandidate};
+ghost use Rattle.rule_match.specs.Applied.{application};
+ghost use Rattle.rule_match.specs.Least.{HasNone, rank};
+ghost use Rattle.rule_match.specs.Best.{IsBest};
+ghost use Rattle.rule_match.specs.Passed.{IsOn, IsFind, IsLeastSoFar, state_at};
+
+use super::application::Application;
+use super::base::Base;
+use super::few_points::FewPoints;
+use super::found::Found;
+use super::making::{all_numbers, made_points, numbered_elements};
+use super::progress::Progress;
+use super::rule_search::try_rule;
+use front_chain::Front;
+use grid_geom::Points;
+use list_of::List;
+use rule_maps::{Compiled, RuleSet};
+use size_field::Sizes;
+use std::alloc::{AllocError, Global};
+use std::sync::ledger::Ledger;
+use steps::Steps;
+
+/// Whether the rule may apply at the class: it is live, and its quality is at most the class.
+fn may_apply(rule: &Compiled<'_>, class: u32) -> bool
+    ensures live { result ≡ true → IsLive rule.now }
+    ensures quality { result ≡ true → rule.now.quality ≤ class }
+    ensures never { result ≡ false → IsLive rule.now → rule.now.quality ≤ class → ⊥ }
+{
+    rule.inert().is_none() && rule.rule().quality <= class
+}
+
+/// Passes the rule with the number, where it may apply at the class.
+fn pass_rule(
+    alloc: Global,
+    base: &Base<'_>,
+    rules: &RuleSet<'_>,
+    number: usize,
+    progress: &mut Progress,
+) -> Result<(), AllocError>
+    requires first { 1 ≤ number }
+    requires last { number ≤ length rules.now }
+    requires so_far { IsLeastSoFar base.now rules.now (number - 1) progress.old.best }
+    ensures { OnOk result (IsLeastSoFar base.now rules.now number progress.new.best) }
+{
+    let _near = base.near();
+    let rule = rules.get(number);
+    if may_apply(rule, base.class()) {
+        try_rule(alloc, base, rule, number, progress)?;
+    }
+    Ok(())
+}
+
+/// What is found over all rules.
+fn least_found(
+    alloc: Global,
+    base: &Base<'_>,
+    rules: &RuleSet<'_>,
+) -> Result<Option<Found>, AllocError>
+    ensures { IfOk result (IsLeastSoFar base.now rules.now (length rules.now)) }
+{
+    let mut progress = Progress {
+        best: None,
+        notes: Vec::new(alloc),
+    };
+    for position in 0..rules.count() {
+        pass_rule(alloc, base, rules, position + 1, &mut progress)?;
+    }
+    Ok(progress.best)
+}
+
+/// The places of the front's points with these numbers.
+fn places_of(alloc: Global, front: &Front, numbers: &[u64]) -> FewPoints
+    requires few { length numbers.now ≤ 16 }
+    requires listed { AllByRecursion (IsListed (length front.now.points)) numbers.now }
+    ensures { result ≡ corners_of front.now.points numbers.now }
+{
+    let mut places = FewPoints::new(alloc);
+    for number in numbers {
+        places.push(front.point(*number));
+    }
+    places
+}
+
+/// The application that a find gives.
+fn application_of(
+    alloc: Global,
+    base: &Base<'_>,
+    rules: &RuleSet<'_>,
+    found: &Found,
+) -> Result<Application, AllocError>
+    requires { IsFind base.now rules.now found.now }
+    ensures { IfOk result (λ a. (t : Attempt) → IsOn base.now rules.now t →
+        IsCandidate (state_at base.now) t →
+        found.now ≡ rank (state_at base.now) t → a ≡ application (state_at base.now) t) }
+{
+    let (front, rule) = (base.front(), rules.get(found.rule));
+    let text = rule.rule();
+    let points = found.points.as_slice();
+    let mapped = places_of(alloc, front, points);
+    let made = made_points(alloc, rule, base.frame(), mapped.as_slice()).unwrap();
+    let numbers = all_numbers(alloc, points, front.points(), made.as_slice())?;
+    let elements = numbered_elements(alloc, &numbers, text.elements.as_slice())?;
+    Ok(Application {
+        class: base.class(),
+        line: base.line(),
+        rule: found.rule,
+        points: List::from_vec(points.to_vec(alloc)?),
+        made: Points::from_vec(made.as_slice().to_vec(alloc)?),
+        elements: List::from_vec(elements),
+    })
+}
+
+/// The application of the least candidate of the line at the class; None exactly where there is none.
+/// Each call is one step.
+///
+/// Errors: want of memory.
+pub fn best<L: Ledger>(
+    alloc: Global,
+    front: &Front,
+    sizes: &Sizes,
+    rules: &RuleSet<'_>,
+    line: u64,
+    class: u32,
+    steps: &mut Steps<L>,
+) -> Result<Option<Application>, AllocError>
+    requires on_front { IsSome (line_at front.now.lines line) }
+    requires class_least { 1 ≤ class }
+    requires class_greatest { class ≤ 16 }
+    ensures least { IfOk result (λ found.
+        IfSome found (IsBest sizes.now (state_of front.now) rules.now line class)) }
+    ensures none { IfOk result (λ found.
+        IfNone found (HasNone sizes.now (state_of front.now) rules.now line class)) }
+    ensures counted { steps.new ≡ steps.old + 1 }
+{
+    steps.count();
+    let base = Base::new(alloc, front, sizes, line, class)?;
+    match least_found(alloc, &base, rules)? {
+        None => Ok(None),
+        Some(found) => Ok(Some(application_of(alloc, &base, rules, &found)?)),
+    }
+}

@@ -1,0 +1,31 @@
+//! One rule passed on a base line.
+
+ghost use Rattle.std.specs.Prelude.{◌≤◌, OnOk};
+ghost use Rattle.rule_maps.specs.Inert.{IsLive};
+ghost use Rattle.rule_match.specs.Passed.{IsPassed};
+
+use super::base::Base;
+use super::front_trial::FrontTrial;
+use super::progress::Progress;
+use super::walk::search;
+use rule_maps::Compiled;
+use std::alloc::{AllocError, Global};
+
+/// Passes each assignment of the rule on the base line.
+pub(crate) fn try_rule(
+    alloc: Global,
+    base: &Base<'_>,
+    rule: &Compiled<'_>,
+    number: usize,
+    progress: &mut Progress,
+) -> Result<(), AllocError>
+    requires live { IsLive rule.now }
+    requires quality { rule.now.quality ≤ base.now.class }
+    ensures { OnOk result
+        (IsPassed (record { base = base.now; number = number; rule = rule.now })
+        progress.old progress.new) }
+{
+    let trial = FrontTrial::new(base, number, rule);
+    search(alloc, &trial, progress)?;
+    Ok(())
+}
