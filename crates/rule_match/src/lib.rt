@@ -7,11 +7,11 @@
 //! 3. The best find is the least by badness, then rule, then assignment. Badness is compared as a
 //!    fraction, crosswise in 128 bits.
 //! 4. A find that doesn't come before the best so far is never judged.
-//! 5. Where nothing is found, each assignment that was judged has a front line noted that keeps it from
-//!    being a candidate, with a point that it maps.
-//!
-//! Not here yet: what decides of whole assignments (`Judge`: new points, zone, gluing) over a front, how
-//! near points are gathered from a front, and the search over all rules of a file.
+//! 5. `best` tries each live rule of quality at most the class on one line. The line's frame, the front
+//!    points in range and the front lines between them are gathered once, from the lines whose boxes
+//!    meet the range, and are shared by all rules.
+//! 6. The law on refusals (`laws::law_none`) is over notes of front lines, which `best` doesn't make:
+//!    where it finds nothing, no attempt is a candidate.
 
 mod application;
 mod around;
