@@ -36,3 +36,5 @@ pub mod GoesOn
 pub mod OpenedRun
 -- Zipped: lists in step with each other.
 pub mod Zipped
+-- StillNone: a refusal stays true.
+pub mod StillNone

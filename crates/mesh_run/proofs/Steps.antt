@@ -80,7 +80,7 @@ left_on w ns [] n l m =
 left_on w ns (ms ∷ els) n l m = left_on (glued w ns) ms els (glued_numbered w ns n l.0) l.1 m.1
 
 -- ---- new points listed
-reached_with : (b : List Edge) (st : State) (more : List Point) → IsReached b st → IsDistinct same_point (st.points ++ more) → All IsOnGrid more → IsReached b (with_points st more)
+pub reached_with : (b : List Edge) (st : State) (more : List Point) → IsReached b st → IsDistinct same_point (st.points ++ more) → All IsOnGrid more → IsReached b (with_points st more)
 reached_with b st more r different on_grid = record {
   numbered = record { different = different; lines_listed = joined_more st.points more st.front r.numbered.lines_listed };
   on_grid = All-append IsOnGrid st.points more r.on_grid on_grid;

@@ -13,4 +13,6 @@ pub mod Runs
 -- Reached: what a run keeps of its state. RunState: a run of a domain while it goes on.
 pub mod Reached
 pub mod RunState
+-- Remembered: refusals that a run remembers.
+pub mod Remembered
 pub mod Sum

@@ -1,7 +1,12 @@
 //! The laws of openings and runs, each as the contract of a function that does nothing.
 
 ghost use Rattle.std.specs.Prelude.{◌≡◌, ◌<◌, ◌≤◌, ℕ, List, All, length, take, true, Option, None, [], ◌↔◌, ◌≢◌};
-ghost use Rattle.std.specs.List.{AllZip, IsDistinct};
+ghost use Rattle.std.specs.List.{AllByRecursion, AllZip, Contains, IsDistinct};
+ghost use Rattle.rule_maps.specs.Frame.{LocalFrame};
+ghost use Rattle.size_field.specs.Size.{SizeField};
+ghost use Rattle.rule_match.specs.Least.{HasNone};
+ghost use Rattle.rule_match.specs.Near.{IsCoveredBy, IsStayingLine, reach_hi, reach_lo};
+ghost use Rattle.mesh_run.specs.Remembered.{IsApartFrom};
 ghost use Rattle.grid_geom.specs.Bounds.{IsOnGrid};
 ghost use Rattle.grid_geom.specs.Closed.{same_point};
 ghost use Rattle.grid_geom.specs.declared.Point.{Point};
@@ -37,7 +42,7 @@ ghost use Rattle.rule_reader.specs.Normal.{CanPrint, IsRule};
 ghost use Rattle.rule_match.specs.declared.application.Application.{Application};
 ghost use Rattle.rule_match.specs.Applied.{application};
 ghost use Rattle.rule_match.specs.Candidate.{Attempt, IsCandidate};
-ghost use Rattle.state_law.specs.State.{State, front_edges as edges_of_front};
+ghost use Rattle.state_law.specs.State.{AreRising, State, front_edges as edges_of_front};
 
 /// The front with which a domain begins is the domain's boundary, edge by edge, so it winds round
 /// each point as the boundary does.
@@ -217,4 +222,18 @@ pub fn law_ends()
     ensures domain { (g : PlanarMap) (rules : List Rule) (options : Options) (d : ℕ)
         (r : DomainRun) → IsDomainRun g rules options d r →
         (r.end ≡ Done) ↔ (r.front ≡ []) }
+{}
+
+/// A refusal stays true: a front line whose reach lies apart from an application's elements has no
+/// candidate at a class after the application, where it had none before. `n` covers the rules.
+pub fn law_still()
+    ensures none { (sizes : SizeField) (rules : List Rule) (n class : ℕ) (b : List Edge) (st : State)
+        (a : Application) (line : ℕ × ℕ × ℕ) (f : LocalFrame) → 1 ≤ class →
+        AllByRecursion (IsCoveredBy n) rules → IsReached b st → MayBeApplied st a →
+        IsStayingLine sizes st (applied st a) line f →
+        IsApartFrom (reach_lo n f) (reach_hi n f) st a →
+        HasNone sizes st rules line.0 class → HasNone sizes (applied st a) rules line.0 class }
+    ensures stays { (st : State) (a : Application) (line other : ℕ × ℕ × ℕ) →
+        AreRising st.front st.next → Contains st.front line →
+        Contains (applied st a).front other → other.0 ≡ line.0 → other ≡ line }
 {}
