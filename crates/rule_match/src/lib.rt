@@ -28,7 +28,6 @@ mod making;
 mod near;
 mod progress;
 mod rule_search;
-mod rule_trial;
 mod squares;
 #[cfg(test)]
 mod tests;
@@ -44,7 +43,6 @@ pub use fresh::search_fresh;
 pub use least::best;
 pub use near::NearPoint;
 pub use progress::{Note, Progress};
-pub use rule_trial::{Judge, RuleTrial};
 pub use squares::element_badness;
 pub use std::alloc::AllocError as OutOfMemory;
 pub use trying::Trying;

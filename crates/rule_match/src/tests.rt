@@ -1,130 +1,123 @@
-//! A search meets the assignments that fit, and no others.
+//! Worked by hand: the triangle (0, 0), (640000, 0), (0, 640000) with two rules that make it one element.
 
-ghost use Rattle.std.specs.Prelude.{[]};
-ghost use Rattle.grid_geom.specs.Bounds.{IsOnGrid};
+ghost use Rattle.std.specs.Prelude.{◌≡◌, ◌≤◌, ◌<◌, length, IfOk};
+ghost use Rattle.rule_reader.specs.Normal.{CanPrint};
 
-use crate::{
-    Assignment, Badness, Found, Judge, NearPoint, Note, Progress, RuleTrial, Trying, search,
-};
+use super::*;
+use front_chain::Front;
 use grid_geom::Point;
-use list_of::List;
-use rule_reader::{MapLine, MapPoint, Rule, Triple};
-use std::alloc::{AllocError, Global};
+use rule_maps::RuleSet;
+use rule_reader::{Rules, read_rules};
+use size_field::Sizes;
+use std::alloc::Global;
+use std::marker::Brand;
+use std::sync::ledger::{Blank, Ledger};
 use std::test::Fail;
-use word_scan::Name;
+use steps::Steps;
 
-/// Takes no assignment, and notes each that it is asked about.
-#[derive(Clone, Copy, Debug)]
-struct Never {}
+/// A rule whose third point no mapped line leads to, and one that maps all three sides.
+const RULES: &[u8] = b"rule \"Loose\"
+quality 2
+mappoints (0, 0); (1, 0); (0.5, 0.866);
+maplines (1, 2) del;
+newlines (1, 3); (3, 2);
+freearea (0, 0); (1, 0) { 1 X2 } { }; (0.5, 0.866) { 1 X3 } { 1 Y3 };
+elements (1, 2, 3);
+endrule
+rule \"Close\"
+mappoints (0, 0); (1, 0); (0.5, 0.866);
+maplines (1, 2) del; (2, 3) del; (3, 1) del;
+freearea (0, 0); (1, 0) { 1 X2 } { }; (0.5, 0.866) { 1 X3 } { 1 Y3 };
+elements (1, 2, 3);
+endrule
+";
 
-impl Judge for Never {
-    ghost holds = { λ j s b. ⊥ };
-
-    ghost reasons = { λ j s notes b. Unit {0} };
-
-    ghost rank = { λ j s b. record { badness = record { squares = 1; area = 1 }; rule = 1; points = [] } };
-
-    fn find<'a>(&self, alloc: Global, _trying: &Trying<'a>, _chosen: &[usize]) -> Option<Found> {
-        Some(Found {
-            badness: Badness {
-                squares: 1,
-                area: 1,
-            },
-            rule: 1,
-            points: Assignment::new(alloc),
-        })
-    }
-
-    fn judge<'a>(
-        &self,
-        _alloc: Global,
-        _trying: &Trying<'a>,
-        chosen: &[usize],
-        notes: &mut Vec<Note>,
-    ) -> Result<bool, AllocError> {
-        notes.push(Note {
-            line: 7,
-            point: chosen.len() as u64,
-        })?;
-        Ok(false)
-    }
-
-    ghost more = { λ j s notes more b h. tt };
-}
-
-/// A weight of 1 for each coordinate, or none.
-fn weights(all: i32) -> Triple {
-    Triple {
-        f1: all,
-        f2: 0,
-        f3: all,
-    }
-}
-
-/// A point of a rule, in units of 1/10,000.
-fn point(x: i32, y: i32) -> MapPoint {
-    MapPoint {
-        x,
-        y,
-        tol: weights(10000),
-    }
-}
-
-/// A rule of three points: the third is near (1/2, 1), to the left of the base line.
-fn triangle(alloc: Global) -> Result<Rule, AllocError> {
-    Ok(Rule {
-        name: Name::from_vec(Vec::new(alloc)),
-        quality: 1,
-        points: List::from_vec(vec![in alloc; point(0, 0), point(10000, 0), point(5000, 10000)]?),
-        lines: List::from_vec(vec![in alloc;
-            MapLine {
-                i: 1,
-                j: 2,
-                tol: weights(0),
-                del: true
-            },
-        ]?),
-        new_points: List::from_vec(Vec::new(alloc)),
-        new_lines: List::from_vec(Vec::new(alloc)),
-        area: List::from_vec(Vec::new(alloc)),
-        limit: List::from_vec(Vec::new(alloc)),
-        elements: List::from_vec(Vec::new(alloc)),
-        turns: List::from_vec(vec![in alloc; (1, 2, 3)]?),
-    })
-}
-
-/// A near point, of a base line 10 steps long from the origin along x.
-fn near(number: u64, x: u8, y: u8) -> NearPoint
-    ensures { IsOnGrid result.at }
+/// The rules of a text.
+fn read(alloc: Global, text: &[u8]) -> Result<Rules, Fail>
+    requires { length text.now ≤ 1048576 }
+    ensures { IfOk result CanPrint }
 {
-    NearPoint {
-        number,
-        at: Point {
-            x: x as i64,
-            y: y as i64,
-        },
-        x: 1000 * x as i32,
-        y: 1000 * y as i32,
+    match read_rules(alloc, text) {
+        Ok(rules) => Ok(rules),
+        Err(_) => Err("the text is admitted".into()),
     }
+}
+
+/// The front of the triangle.
+fn triangle(alloc: Global) -> Result<Front, OutOfMemory> {
+    Front::open(
+        alloc,
+        &[
+            Point { x: 0, y: 0 },
+            Point { x: 640_000, y: 0 },
+            Point { x: 0, y: 640_000 },
+        ],
+        &[(1, 2), (2, 3), (3, 1)],
+    )
+}
+
+/// What is found on the triangle's first line at a class of 1 or 2, by the rules of a text.
+fn found<L: Ledger>(
+    alloc: Global,
+    blank: Blank,
+    text: &[u8],
+    is_second: bool,
+) -> Result<Option<Application>, Fail>
+    requires name { blank.name ≡ L.name }
+    requires parts { blank.parts ≡ L.parts }
+    requires some { 0 < L.parts }
+    requires short { length text.now ≤ 1048576 }
+{
+    let mut steps = Steps::<L>::from_blank(blank);
+    let rules = read(alloc, text)?;
+    let set = RuleSet::new(alloc, &rules)?;
+    let sizes = Sizes::new(alloc, 736_000, 300);
+    let front = triangle(alloc)?;
+    if front.line(1).is_none() {
+        return Err("the front has a first line".into());
+    }
+    let class = if is_second { 2 } else { 1 };
+    Ok(best(alloc, &front, &sizes, &set, 1, class, &mut steps)?)
+}
+
+/// Whether the application makes the triangle one element, by the rule with this number.
+fn is_by(application: &Option<Application>, rule: usize) -> bool {
+    match application {
+        None => false,
+        Some(a) => {
+            a.rule == rule
+                && a.points.as_slice() == [1, 2, 3].as_slice()
+                && a.made.as_slice().is_empty()
+                && a.elements.as_slice().len() == 1
+        }
+    }
+}
+
+/// The same over a ledger of its own.
+fn triangle_found(
+    alloc: Global,
+    text: &[u8],
+    is_second: bool,
+) -> Result<Option<Application>, Fail>
+    requires { length text.now ≤ 1048576 }
+{
+    found::<Brand>(alloc, Blank::new(1), text, is_second)
 }
 
 #[test]
-fn a_search_meets_what_fits(rt: HostRuntime) -> Result<(), Fail> {
-    let alloc = rt.alloc();
-    let rule = triangle(alloc)?;
-    let points = [near(1, 0, 0), near(2, 10, 0), near(3, 5, 9), near(4, 5, 90)];
-    let lines = [(1, 2), (2, 3)];
-    let trial = RuleTrial {
-        trying: Trying::new(1, 1, 2, &points, &lines, &rule),
-        judge: &Never {},
-    };
-    let mut progress = Progress {
-        best: None,
-        notes: Vec::new(alloc),
-    };
-    search(alloc, &trial, &mut progress)?;
-    assert!(rt; progress.best.is_none());
-    assert_eq!(rt; progress.notes.len(), 1);
-    assert_eq!(rt; progress.notes.first().map(|note| note.point), Some(3));
+fn a_rule_of_greater_quality_waits(rt: HostRuntime) -> Result<(), Fail> {
+    assert!(rt; is_by(&triangle_found(rt.alloc(), RULES, false)?, 2));
+    Ok(())
+}
+
+#[test]
+fn of_equals_the_first_rule_is_taken(rt: HostRuntime) -> Result<(), Fail> {
+    assert!(rt; is_by(&triangle_found(rt.alloc(), RULES, true)?, 1));
+    Ok(())
+}
+
+#[test]
+fn without_rules_nothing_is_found(rt: HostRuntime) -> Result<(), Fail> {
+    assert!(rt; triangle_found(rt.alloc(), b"", false)?.is_none());
     Ok(())
 }
