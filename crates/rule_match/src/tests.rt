@@ -94,11 +94,7 @@ fn is_by(application: &Option<Application>, rule: usize) -> bool {
 }
 
 /// The same over a ledger of its own.
-fn triangle_found(
-    alloc: Global,
-    text: &[u8],
-    is_second: bool,
-) -> Result<Option<Application>, Fail>
+fn triangle_found(alloc: Global, text: &[u8], is_second: bool) -> Result<Option<Application>, Fail>
     requires { length text.now ≤ 1048576 }
 {
     found::<Brand>(alloc, Blank::new(1), text, is_second)
