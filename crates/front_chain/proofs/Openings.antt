@@ -1,7 +1,6 @@
 -- The opening of a front: points listed one after another, lines made one after another, and the area that a line sweeps.
-use Prim.Native.Nat.{ℕ, zero, suc, ◌+◌, ◌*◌, ◌^◌, ◌≤◌, ◌<◌}
-use lib.IntN.{ℤ, pos, negsuc, neg_ℤ, ◌+ℤ◌, ◌-ℤ◌, ◌*ℤ◌}
-use lib.Signed.{◌≤ℤ◌}
+use Prim.Native.Nat.{ℕ, zero, suc, ◌+◌, ◌<◌}
+use lib.IntN.{ℤ, pos, ◌+ℤ◌, ◌-ℤ◌, ◌*ℤ◌}
 use lib.ListN.{length, get_or, take}
 use mathlib.Core.Path.{◌≡◌, refl, sym, ap, ◌∙◌}
 use mathlib.Core.Bool.{Bool, true, false, cond, ◌&&◌}
@@ -79,8 +78,8 @@ pub numbered_step : (k : ℕ) (lines : List (ℕ × ℕ)) (d : ℕ × ℕ) → k
 numbered_step k lines d l = sym (ap (numbered_from 1) (take_more lines k d l) ∙ numbered_push 1 (take k lines) (get_or lines k d) ∙ ap (λ (m : ℕ). numbered_from 1 (take k lines) ++ (1 + m, (get_or lines k d).0, (get_or lines k d).1) ∷ []) (length-take-le k lines (omega (arith, l))))
 
 -- ---- the area, one line further
-pub area_step : (points : List Point) (lines : List (ℕ × ℕ)) (k : ℕ) (d : ℕ × ℕ) (area : ℤ) → k < length lines → area ≡ shoelace (map (pair_edge points) (take k lines)) → IsWithin (pos (k * 2199023255552)) area →
-    (s : ℤ) → s ≡ sweep_of (pair_edge points (get_or lines k d)) → IsWithin SWEEP s → (area +ℤ s ≡ shoelace (map (pair_edge points) (take (k + 1) lines))) × IsWithin (pos ((k + 1) * 2199023255552)) (area +ℤ s)
+pub area_step : (points : List Point) (lines : List (ℕ × ℕ)) (k : ℕ) (d : ℕ × ℕ) (area : ℤ) → k < length lines → area ≡ shoelace (map (pair_edge points) (take k lines)) → IsWithin (SWEEP *ℤ pos k) area →
+    (s : ℤ) → s ≡ sweep_of (pair_edge points (get_or lines k d)) → IsWithin SWEEP s → (area +ℤ s ≡ shoelace (map (pair_edge points) (take (k + 1) lines))) × IsWithin (SWEEP *ℤ pos (k + 1)) (area +ℤ s)
 area_step points lines k d area l e w s f v = (sum, wider k area s w v)
   where
     plus_none : (z : ℤ) → z +ℤ pos 0 ≡ z
@@ -91,22 +90,9 @@ area_step points lines k d area l e w s f v = (sum, wider k area s w v)
         ∙ sym (shoelace-append (map (pair_edge points) (take k lines)) (pair_edge points (get_or lines k d) ∷ []))
         ∙ ap shoelace (sym (map-append (pair_edge points) (take k lines) (get_or lines k d ∷ [])) ∙ ap (map (pair_edge points)) (sym (take_more lines k d l)))
 
-    wider : (k : ℕ) (u w : ℤ) → IsWithin (pos (k * 2199023255552)) u → IsWithin SWEEP w → IsWithin (pos ((k + 1) * 2199023255552)) (u +ℤ w)
+    wider : (k : ℕ) (u w : ℤ) → IsWithin (SWEEP *ℤ pos k) u → IsWithin SWEEP w → IsWithin (SWEEP *ℤ pos (k + 1)) (u +ℤ w)
     wider k u w h i = record { least = omega (arith, ints, h.least, i.least); greatest = omega (arith, ints, h.greatest, i.greatest) }
 
 -- a sum over fewer than 2^64 lines fits
-pub fits_area : (n k : ℕ) (z : ℤ) → k < n → Fits w64 n → IsWithin (pos ((k + 1) * 2199023255552)) z → SFits w128 z
-fits_area n k (pos m) l f h = record { sfits = below m k n l f (positive m k h.greatest) }
-  where
-    positive : (m k : ℕ) → pos m ≤ℤ pos ((k + 1) * 2199023255552) → m ≤ (k + 1) * 2199023255552
-    positive m k h = omega (arith, ints, h)
-
-    below : (m k n : ℕ) → k < n → Fits w64 n → m ≤ (k + 1) * 2199023255552 → m < 2 ^ 127
-    below m k n l f h = omega (arith, l, f, h)
-fits_area n k (negsuc m) l f h = record { sfits = below m k n l f (negative m k h.least) }
-  where
-    negative : (m k : ℕ) → neg_ℤ (pos ((k + 1) * 2199023255552)) ≤ℤ negsuc m → m ≤ (k + 1) * 2199023255552
-    negative m k h = grind (arith, ints)
-
-    below : (m k n : ℕ) → k < n → Fits w64 n → m ≤ (k + 1) * 2199023255552 → m < 2 ^ 127
-    below m k n l f h = omega (arith, l, f, h)
+pub fits_area : (n k : ℕ) (z : ℤ) → k < n → Fits w64 n → IsWithin (SWEEP *ℤ pos (k + 1)) z → SFits w128 z
+fits_area n k z l f h = omega (arith, ints, l, f, h.least, h.greatest)

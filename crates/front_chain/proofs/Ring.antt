@@ -10,6 +10,7 @@ use Rattle.std.proofs.lemmas.Int.{ints}
 use Rattle.std.proofs.lemmas.List.Elements.{All-from_recursion}
 use Rattle.std.specs.List.{AllByRecursion, IsDistinct}
 use Rattle.grid_geom.specs.declared.Point.{Point}
+use Rattle.grid_geom.specs.declared.TheConstants.{GRID}
 use Rattle.grid_geom.specs.Bounds.{IsOnGrid, IsWithin}
 use Rattle.grid_geom.specs.Plane.{orient}
 use Rattle.grid_geom.specs.Polygon.{sides, IsStrictlyConvex, corner_at, after}
@@ -191,17 +192,17 @@ ring_opens = record {
   bounded = omega arith;
 }
   where
-    at : (x y : ℕ) → IsWithin (pos 1048576) (pos x) → IsWithin (pos 1048576) (pos y) → IsOnGrid (place x y)
+    at : (x y : ℕ) → IsWithin GRID (pos x) → IsWithin GRID (pos y) → IsOnGrid (place x y)
     at x y h k = record { x_within = h; y_within = k }
 
-    s0 : IsWithin (pos 1048576) (pos 0)
+    s0 : IsWithin GRID (pos 0)
     s0 = record { least = omega (arith, ints); greatest = omega (arith, ints) }
 
-    s1 : IsWithin (pos 1048576) (pos 64000)
+    s1 : IsWithin GRID (pos 64000)
     s1 = record { least = omega (arith, ints); greatest = omega (arith, ints) }
 
-    s2 : IsWithin (pos 1048576) (pos 128000)
+    s2 : IsWithin GRID (pos 128000)
     s2 = record { least = omega (arith, ints); greatest = omega (arith, ints) }
 
-    s3 : IsWithin (pos 1048576) (pos 192000)
+    s3 : IsWithin GRID (pos 192000)
     s3 = record { least = omega (arith, ints); greatest = omega (arith, ints) }

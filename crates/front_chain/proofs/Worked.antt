@@ -10,6 +10,7 @@ use lib.ListN.{length}
 use Rattle.std.specs.List.{AllByRecursion, IsDistinct}
 use Rattle.grid_geom.specs.Closed.{same_point}
 use Rattle.grid_geom.specs.declared.Point.{Point}
+use Rattle.grid_geom.specs.declared.TheConstants.{GRID}
 use Rattle.grid_geom.specs.Bounds.{IsOnGrid, IsWithin}
 use Rattle.grid_geom.specs.Polygon.{sides, IsStrictlyConvex}
 use Rattle.grid_geom.proofs.Convex.{triangle_convex}
@@ -39,10 +40,10 @@ triangle_opens = record {
   bounded = omega arith;
 }
   where
-    small : IsWithin (pos 1048576) (pos 0)
+    small : IsWithin GRID (pos 0)
     small = record { least = omega (arith, ints); greatest = omega (arith, ints) }
 
-    large : IsWithin (pos 1048576) (pos 640000)
+    large : IsWithin GRID (pos 640000)
     large = record { least = omega (arith, ints); greatest = omega (arith, ints) }
 
 pub triangle_gluable : (f : FrontState) → f.points ≡ triangle_points → f.lines ≡ worked.front → IsGluable f (1 ∷ 2 ∷ 3 ∷ [])
