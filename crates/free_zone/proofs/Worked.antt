@@ -1,6 +1,6 @@
 -- The fronts of the tests: the sides of strictly convex polygons are openings.
 use lib.IntN.{pos}
-use lib.Signed.{◌<ℤ◌}
+use lib.Signed.{◌<ℤ◌, ◌≤ℤ◌}
 use Prim.Native.Nat.{ℕ, zero, suc, ◌+◌, ◌*◌, ◌-◌, ◌^◌, ◌≤◌, ◌<◌}
 use mathlib.Core.Path.{refl}
 use mathlib.Core.Logic.{◌≢◌}
@@ -11,6 +11,7 @@ use Rattle.std.proofs.lemmas.List.Elements.{All-from_recursion}
 use Rattle.std.specs.List.{IsDistinct}
 use Rattle.grid_geom.specs.declared.Point.{Point}
 use Rattle.grid_geom.specs.Area.{shoelace}
+use Rattle.grid_geom.specs.declared.TheConstants.{GRID}
 use Rattle.grid_geom.specs.Bounds.{IsOnGrid, IsWithin}
 use Rattle.grid_geom.specs.Plane.{orient}
 use Rattle.grid_geom.specs.Polygon.{sides, corner_at, after, IsStrictlyConvex}
@@ -22,13 +23,10 @@ use Rattle.state_law.proofs.Region.{region_of}
 use Rattle.front_chain.specs.Front.{IsOpening, numbered_from, or_zero}
 
 -- ---- places
-zero_within : IsWithin (pos 1048576) (pos 0)
-zero_within = record { least = omega (arith, ints); greatest = omega (arith, ints) }
-
-within : (n : ℕ) → n ≤ 1048576 → IsWithin (pos 1048576) (pos n)
+within : (n : ℕ) → pos n ≤ℤ GRID → IsWithin GRID (pos n)
 within n h = record { least = omega (arith, ints); greatest = omega (arith, ints, h) }
 
-on_grid : (x y : ℕ) → x ≤ 1048576 → y ≤ 1048576 → IsOnGrid (place x y)
+on_grid : (x y : ℕ) → pos x ≤ℤ GRID → pos y ≤ℤ GRID → IsOnGrid (place x y)
 on_grid x y h i = record { x_within = within x h; y_within = within y i }
 
 -- ---- a square
@@ -74,7 +72,7 @@ square_numbered = record {
 pub square_opens : IsOpening square square_lines
 square_opens = record {
   numbered = square_numbered;
-  on_grid = All-from_recursion IsOnGrid square (on_grid 0 0 (omega arith) (omega arith), (on_grid 640000 0 (omega arith) (omega arith), (on_grid 640000 640000 (omega arith) (omega arith), (on_grid 0 640000 (omega arith) (omega arith), tt))));
+  on_grid = All-from_recursion IsOnGrid square (on_grid 0 0 (omega (arith, ints)) (omega (arith, ints)), (on_grid 640000 0 (omega (arith, ints)) (omega (arith, ints)), (on_grid 640000 640000 (omega (arith, ints)) (omega (arith, ints)), (on_grid 0 640000 (omega (arith, ints)) (omega (arith, ints)), tt))));
   region = region_of (sides square) (sides square) (sides square) [] (polygon_kept square square_convex);
   bounded = omega arith;
 }
@@ -93,11 +91,11 @@ triangle_numbered height = record {
   lines_listed = (((omega arith, omega arith), (omega arith, omega arith)), (((omega arith, omega arith), (omega arith, omega arith)), (((omega arith, omega arith), (omega arith, omega arith)), tt)));
 }
 
-triangle_opens : (height : ℕ) → height ≤ 1048576 → pos 0 <ℤ orient (place 0 0) (place 640000 0) (place 320000 height) →
+triangle_opens : (height : ℕ) → pos height ≤ℤ GRID → pos 0 <ℤ orient (place 0 0) (place 640000 0) (place 320000 height) →
     3 + 4 * or_zero (shoelace (map (pair_edge (triangle height)) triangle_lines)) ≤ 2 ^ 64 - 2 → IsOpening (triangle height) triangle_lines
 triangle_opens height h o b = record {
   numbered = triangle_numbered height;
-  on_grid = All-from_recursion IsOnGrid (triangle height) (on_grid 0 0 (omega arith) (omega arith), (on_grid 640000 0 (omega arith) (omega arith), (on_grid 320000 height (omega arith) h, tt)));
+  on_grid = All-from_recursion IsOnGrid (triangle height) (on_grid 0 0 (omega (arith, ints)) (omega (arith, ints)), (on_grid 640000 0 (omega (arith, ints)) (omega (arith, ints)), (on_grid 320000 height (omega (arith, ints)) h, tt)));
   region = region_of (sides (triangle height)) (sides (triangle height)) (sides (triangle height)) [] (polygon_kept (triangle height) (triangle_convex (place 0 0) (place 640000 0) (place 320000 height) o));
   bounded = b;
 }
@@ -106,10 +104,10 @@ low_turned : pos 0 <ℤ pos 192000000000
 low_turned = omega (arith, ints)
 
 pub low_opens : IsOpening (triangle 300000) triangle_lines
-low_opens = triangle_opens 300000 (omega arith) low_turned (omega arith)
+low_opens = triangle_opens 300000 (omega (arith, ints)) low_turned (omega arith)
 
 high_turned : pos 0 <ℤ pos 576000000000
 high_turned = omega (arith, ints)
 
 pub high_opens : IsOpening (triangle 900000) triangle_lines
-high_opens = triangle_opens 900000 (omega arith) high_turned (omega arith)
+high_opens = triangle_opens 900000 (omega (arith, ints)) high_turned (omega arith)
