@@ -22,6 +22,7 @@ use Rattle.rule_maps.proofs.Ranges.{along_fraction, left_fraction}
 use Rattle.rule_maps.proofs.Rounding.{nearest_near}
 use Rattle.state_law.specs.State.{point_at}
 use Rattle.admission.specs.Around.{IsInBounds}
+use Rattle.rule_match.specs.declared.around.TheConstants.{FARTHEST}
 use Rattle.rule_match.specs.declared.near.NearPoint.{NearPoint}
 use Rattle.rule_match.specs.Around.{near_of}
 
@@ -33,7 +34,7 @@ pub record IsFourfold (h r : ℤ) : Type 0 where
   pub fits : SFits w64 (cast128 r)
   pub four_fits : SFits w64 (pos 4 *ℤ cast64 (cast128 r))
   pub value : cast64 (pos 4 *ℤ cast64 (cast128 r)) ≡ pos 4 *ℤ h
-  pub small : unsigned_abs (cast64 (pos 4 *ℤ cast64 (cast128 r))) ≤ 8388608
+  pub small : unsigned_abs (cast64 (pos 4 *ℤ cast64 (cast128 r))) ≤ FARTHEST
 
 pub fourfold : (f : LocalFrame) (r : ℤ) → IsFrame f → r ≡ f.h → IsFourfold f.h r
 fourfold f r k e = subst (IsFourfold f.h) (sym e) (by f.h (frame_bounds f k).high)
@@ -48,19 +49,19 @@ fourfold f r k e = subst (IsFourfold f.h) (sym e) (by f.h (frame_bounds f k).hig
           fits = subst (SFits w64) (sym (to_z-of_z w128 h gh)) fh;
           four_fits = subst (λ (z : ℤ). SFits w64 (pos 4 *ℤ z)) (sym same) f4;
           value = ap (λ (z : ℤ). cast64 (pos 4 *ℤ z)) same ∙ to_z-of_z w64 (pos 4 *ℤ h) f4;
-          small = subst (λ (z : ℤ). unsigned_abs z ≤ 8388608) (sym (ap (λ (z : ℤ). cast64 (pos 4 *ℤ z)) same ∙ to_z-of_z w64 (pos 4 *ℤ h) f4)) (omega (arith, ints, k.least, k.greatest));
+          small = subst (λ (z : ℤ). unsigned_abs z ≤ FARTHEST) (sym (ap (λ (z : ℤ). cast64 (pos 4 *ℤ z)) same ∙ to_z-of_z w64 (pos 4 *ℤ h) f4)) (omega (arith, ints, k.least, k.greatest));
         }
 
 -- the middle is near the grid
-pub middle_x_small : (f : LocalFrame) (p : Point) → IsFrame f → p ≡ f.middle → unsigned_abs p.x ≤ 8388608
-middle_x_small f p k e = let b = frame_bounds f k in subst (λ (q : Point). unsigned_abs q.x ≤ 8388608) (sym e) (omega (arith, ints, b.middle_x.least, b.middle_x.greatest, b.start_on.x_within.least, b.start_on.x_within.greatest, b.way_within.x_within.least, b.way_within.x_within.greatest))
+pub middle_x_small : (f : LocalFrame) (p : Point) → IsFrame f → p ≡ f.middle → unsigned_abs p.x ≤ FARTHEST
+middle_x_small f p k e = let b = frame_bounds f k in subst (λ (q : Point). unsigned_abs q.x ≤ FARTHEST) (sym e) (omega (arith, ints, b.middle_x.least, b.middle_x.greatest, b.start_on.x_within.least, b.start_on.x_within.greatest, b.way_within.x_within.least, b.way_within.x_within.greatest))
 
-pub middle_y_small : (f : LocalFrame) (p : Point) → IsFrame f → p ≡ f.middle → unsigned_abs p.y ≤ 8388608
-middle_y_small f p k e = let b = frame_bounds f k in subst (λ (q : Point). unsigned_abs q.y ≤ 8388608) (sym e) (omega (arith, ints, b.middle_y.least, b.middle_y.greatest, b.start_on.y_within.least, b.start_on.y_within.greatest, b.way_within.y_within.least, b.way_within.y_within.greatest))
+pub middle_y_small : (f : LocalFrame) (p : Point) → IsFrame f → p ≡ f.middle → unsigned_abs p.y ≤ FARTHEST
+middle_y_small f p k e = let b = frame_bounds f k in subst (λ (q : Point). unsigned_abs q.y ≤ FARTHEST) (sym e) (omega (arith, ints, b.middle_y.least, b.middle_y.greatest, b.start_on.y_within.least, b.start_on.y_within.greatest, b.way_within.y_within.least, b.way_within.y_within.greatest))
 
 -- ---- the box of all points in range
 -- each coordinate of a point in range is between the box's
-between : (m far h low high p : ℤ) → unsigned_abs m ≤ 8388608 → unsigned_abs far ≤ 8388608 → far ≡ pos 4 *ℤ h → low ≡ m -ℤ far → high ≡ m +ℤ far → IsWithin (pos 4 *ℤ h) (p -ℤ m) → (cast64 low ≤ℤ p) × (p ≤ℤ cast64 high)
+between : (m far h low high p : ℤ) → unsigned_abs m ≤ FARTHEST → unsigned_abs far ≤ FARTHEST → far ≡ pos 4 *ℤ h → low ≡ m -ℤ far → high ≡ m +ℤ far → IsWithin (pos 4 *ℤ h) (p -ℤ m) → (cast64 low ≤ℤ p) × (p ≤ℤ cast64 high)
 between m far h low high p bm bf e l g w =
     let fl : SFits w64 low = omega (arith, ints, bm, bf, l) in
     let fg : SFits w64 high = omega (arith, ints, bm, bf, g) in
@@ -73,7 +74,7 @@ pub record AreSides (m : Point) (far x0 y0 x1 y1 : ℤ) : Type 0 where
   pub right : x1 ≡ m.x +ℤ far
   pub above : y1 ≡ m.y +ℤ far
 
-pub boxed : (f : LocalFrame) (m : Point) (far x0 y0 x1 y1 : ℤ) → IsFrame f → m ≡ f.middle → far ≡ pos 4 *ℤ f.h → unsigned_abs far ≤ 8388608 → AreSides m (cast64 far) x0 y0 x1 y1 →
+pub boxed : (f : LocalFrame) (m : Point) (far x0 y0 x1 y1 : ℤ) → IsFrame f → m ≡ f.middle → far ≡ pos 4 *ℤ f.h → unsigned_abs far ≤ FARTHEST → AreSides m (cast64 far) x0 y0 x1 y1 →
     (p : Point) → IsInRange f p → IsInBounds (record { lo = record { x = cast64 x0; y = cast64 y0 }; hi = record { x = cast64 x1; y = cast64 y1 } }) p
 boxed f m far x0 y0 x1 y1 k e g small sides p r =
     let fits : SFits w64 far = omega (arith, ints, small) in

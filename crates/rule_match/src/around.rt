@@ -19,9 +19,13 @@ ghost use Rattle.rule_match.specs.Around.{IsSurrounding, near_of, IsStartNear, H
 
 use super::near::NearPoint;
 use front_chain::Front;
-use grid_geom::{Bounds, Point};
+use grid_geom::{Bounds, LONGEST, Point};
 use rule_maps::Frame;
 use std::alloc::{AllocError, Global};
+
+/// How far a point in range may be from the line's middle, in each coordinate, at most: four heights, none above the
+/// greatest length.
+const FARTHEST: u64 = 4 * LONGEST;
 
 /// The front points in range of a base line, and the front lines that begin at them.
 #[derive(Debug, Drop)]
@@ -33,22 +37,22 @@ pub(crate) struct Surroundings {
 /// How far points in range may be from the line's middle, in each coordinate.
 fn range_of(frame: &Frame) -> i64
     ensures value { result ≡ pos 4 *ℤ frame.now.h }
-    ensures small { unsigned_abs result ≤ 2 ^ 23 }
+    ensures small { unsigned_abs result ≤ FARTHEST }
 {
     4 * frame.h() as i64
 }
 
 fn less(a: &i64, b: &i64) -> i64
-    requires a { unsigned_abs a.now ≤ 2 ^ 23 }
-    requires b { unsigned_abs b.now ≤ 2 ^ 23 }
+    requires a { unsigned_abs a.now ≤ FARTHEST }
+    requires b { unsigned_abs b.now ≤ FARTHEST }
     ensures { result ≡ a.now -ℤ b.now }
 {
     a - b
 }
 
 fn plus(a: &i64, b: &i64) -> i64
-    requires a { unsigned_abs a.now ≤ 2 ^ 23 }
-    requires b { unsigned_abs b.now ≤ 2 ^ 23 }
+    requires a { unsigned_abs a.now ≤ FARTHEST }
+    requires b { unsigned_abs b.now ≤ FARTHEST }
     ensures { result ≡ a.now +ℤ b.now }
 {
     a + b

@@ -43,7 +43,7 @@ pub use fresh::search_fresh;
 pub use least::best;
 pub use near::NearPoint;
 pub use progress::{Note, Progress};
-pub use squares::element_badness;
+pub use squares::{MOST_SIDES, element_badness};
 pub use std::alloc::AllocError as OutOfMemory;
 pub use trying::Trying;
 pub use walk::{Trial, search};
