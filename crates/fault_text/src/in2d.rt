@@ -44,7 +44,7 @@ pub(crate) fn write(
 }
 
 /// Writes the word, where it is known.
-fn write_word(text: &mut String, spot: Option<&Spot<'_>>) -> Result<(), AllocError> {
+pub(crate) fn write_word(text: &mut String, spot: Option<&Spot<'_>>) -> Result<(), AllocError> {
     match spot {
         Some(spot) => push_quoted(text, spot.word),
         None => text.push_str("of this row"),
@@ -66,7 +66,7 @@ pub(crate) fn write_misplaced(
 }
 
 /// Writes that a word is no number, or not one that is needed.
-fn write_number(text: &mut String, spot: Option<&Spot<'_>>) -> Result<(), AllocError> {
+pub(crate) fn write_number(text: &mut String, spot: Option<&Spot<'_>>) -> Result<(), AllocError> {
     match spot {
         Some(spot) => {
             push_quoted(text, spot.word)?;

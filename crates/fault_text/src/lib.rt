@@ -10,6 +10,7 @@ mod geometry;
 mod in2d;
 mod rows;
 mod rules;
+mod runs;
 mod sentences;
 mod shift;
 mod spot;

@@ -1,7 +1,8 @@
 //! The sentence of any refusal.
 
-use crate::{geometry, in2d, rules, words, writing};
+use crate::{geometry, in2d, rules, runs, words, writing};
 use std::alloc::{AllocError, Global};
+use std::fmt::Write;
 
 /// A file that was taken: its name, and its bytes where they are at hand.
 #[derive(Clone, Copy, Debug)]
@@ -14,19 +15,47 @@ pub struct File<'a> {
 #[derive(Clone, Copy, Debug)]
 pub enum Refused<'a> {
     /// The words of the call are at fault, or ask for what is not built.
-    Words { words: &'a [String], fault: u32 },
+    Words {
+        words: &'a [String],
+        fault: u32,
+    },
     /// Words that are not UTF-8.
     NoText,
     /// `refused in2d ..`.
-    In2d { file: File<'a>, numbers: &'a [i128] },
+    In2d {
+        file: File<'a>,
+        numbers: &'a [i128],
+    },
     /// `refused geometry ..`.
-    Geometry { file: File<'a>, numbers: &'a [i128] },
+    Geometry {
+        file: File<'a>,
+        numbers: &'a [i128],
+    },
     /// `refused rules ..`.
-    Rules { file: File<'a>, numbers: &'a [i128] },
-    /// `refused folder ..`.
-    Folder { name: &'a str, fault: u32 },
+    Rules {
+        file: File<'a>,
+        numbers: &'a [i128],
+    },
+    /// `refused vol ..`.
+    Mesh {
+        file: File<'a>,
+        numbers: &'a [i128],
+    },
+    /// `refused log ..`.
+    Log {
+        file: File<'a>,
+        numbers: &'a [i128],
+    },
+    /// `refused folder ..`, of a file of which at most `limit` bytes are taken.
+    Folder {
+        name: &'a str,
+        fault: u32,
+        limit: u64,
+    },
     /// `refused notyet ..`.
-    NotYet { part: u32 },
+    NotYet {
+        part: u32,
+    },
     /// The answer was not taken.
     Out,
     /// There was no memory left.
@@ -46,7 +75,9 @@ pub fn sentence(alloc: Global, refused: &Refused<'_>) -> Result<String, AllocErr
         Refused::In2d { file, numbers } => in2d::write(&mut text, file, numbers)?,
         Refused::Geometry { file, numbers } => geometry::write(&mut text, file, numbers)?,
         Refused::Rules { file, numbers } => rules::write(&mut text, file, numbers)?,
-        Refused::Folder { name, fault } => write_folder(&mut text, name, *fault)?,
+        Refused::Mesh { file, numbers } => runs::write_mesh(&mut text, file, numbers)?,
+        Refused::Log { file, numbers } => runs::write_log(&mut text, file, numbers)?,
+        Refused::Folder { name, fault, limit } => write_folder(&mut text, name, *fault, *limit)?,
         Refused::NotYet { part } => write_not_yet(&mut text, *part)?,
         Refused::Out => text.push_str("netmesh: refused: standard output did not take the answer")?,
         Refused::Memory => text.push_str("netmesh: refused: there is no memory left")?,
@@ -56,13 +87,13 @@ pub fn sentence(alloc: Global, refused: &Refused<'_>) -> Result<String, AllocErr
 }
 
 /// Writes which file the folder refused, and why.
-fn write_folder(text: &mut String, name: &str, fault: u32) -> Result<(), AllocError> {
+fn write_folder(text: &mut String, name: &str, fault: u32, limit: u64) -> Result<(), AllocError> {
     writing::push_name(text, name)?;
-    text.push_str(match fault {
-        2 => ": refused: the file is longer than 1048576 bytes",
-        3 => ": refused: there is no such file",
-        _ => ": refused: the file can't be read or written",
-    })
+    match fault {
+        2 => write!(text, ": refused: the file is longer than {limit} bytes"),
+        3 => text.push_str(": refused: there is no such file"),
+        _ => text.push_str(": refused: the file can't be read or written"),
+    }
 }
 
 /// Writes what is not built.

@@ -111,6 +111,7 @@ fn what_is_no_printable_sign_is_made_visible(rt: HostRuntime) -> Result<(), Fail
         &Refused::Folder {
             name: "b\x1b",
             fault: 3,
+            limit: 1_048_576,
         },
     )?;
     assert_eq!(rt; said.as_str(), "b\\x1b: refused: there is no such file\n");
@@ -130,6 +131,26 @@ fn words_are_answered_by_the_form_of_their_verb(rt: HostRuntime) -> Result<(), F
     assert_eq!(rt;
         said.as_str(),
         "netmesh: refused: the words are not in the form geom GEOMETRY\n"
+    );
+    Ok(())
+}
+
+#[test]
+fn a_state_that_a_log_does_not_have_is_named(rt: HostRuntime) -> Result<(), Fail> {
+    let file = File {
+        name: "a.netmeshlog",
+        text: b"netmeshlog 1\n",
+    };
+    let said = sentence(
+        rt.alloc(),
+        &Refused::Log {
+            file,
+            numbers: &[4, 1, 2],
+        },
+    )?;
+    assert_eq!(rt;
+        said.as_str(),
+        "a.netmeshlog: refused: the log has no step 2 of domain 1\n"
     );
     Ok(())
 }
