@@ -6,12 +6,17 @@
 #![tactic(auto)]
 
 mod lists;
+mod read;
+mod reader;
+mod refusal;
 #[cfg(test)]
 mod tests;
 mod write;
 
 use grid_geom::{Element, Points};
 pub use lists::{EdgeRows, MeshElements};
+pub use read::read_vol;
+pub use refusal::{MOST_ROWS, VolRefusal};
 pub use write::write_vol;
 
 /// One piece of a segment of the geometry, as the segment is walked.
