@@ -6,7 +6,7 @@
 -- mesh_form  the form of a mesh's text
 -- mesh_of    the mesh that the words are a text of, or the refusal
 -- Gives      a call returned what reading gives, unless memory ran out
-use Rattle.std.specs.Prelude.{◌≡◌, ℕ, zero, suc, ◌+◌, ◌*◌, ◌/◌, ◌%◌, Bool, true, false, ◌&&◌, ◌||◌, ◌==◌, nat_lt, nat_le, if◌then◌else◌, List, [], ◌∷◌, ◌++◌, length, Option, Some, None, Result, Ok, Err, ℤ, pos, neg_ℤ, ◌+ℤ◌, unsigned_abs}
+use Rattle.std.specs.Prelude.{◌≡◌, ℕ, zero, suc, ◌+◌, ◌*◌, ◌/◌, ◌%◌, Bool, true, false, ◌&&◌, ◌||◌, ◌==◌, nat_lt, nat_le, if◌then◌else◌, List, [], ◌∷◌, ◌++◌, length, Option, Some, None, Result, Ok, Err, ℤ, pos, neg_ℤ, ◌+ℤ◌, unsigned_abs, option_map}
 use Rattle.std.specs.Int.{is_negative}
 use Rattle.std.specs.Str.{bytes_eq}
 use Rattle.word_scan.specs.declared.decimals.Dec.{Dec}
@@ -19,51 +19,63 @@ use Rattle.vol_format.specs.declared.Mesh.{Mesh}
 use Rattle.vol_format.specs.declared.refusal.TheConstants.{MOST_ROWS}
 use Rattle.vol_format.specs.declared.refusal.VolRefusal.{VolRefusal}
 use Rattle.vol_format.specs.declared.refusal.VolRefusal.TheVariants.{Syntax, Number as NumberAt, TooMany, BadIndex, Memory}
-use Rattle.vol_format.specs.Text.{Word, Item, Fixed, Number, Coordinate, Role, Plain, Count, PointNumber, tens, mesh_items, mesh3d, dimension, geomtype, surfaceelements, volumeelements, edgesegmentsgi2, points_word, endmesh}
+use Rattle.vol_format.specs.Vol.{places}
+use Rattle.vol_format.specs.Text.{Word, Item, Fixed, Number, Coordinate, Plain, Count, PointNumber, tens, mesh_items, mesh3d, dimension, geomtype, surfaceelements, volumeelements, edgesegmentsgi2, points_word, endmesh}
 
--- this word; a whole number from the least to the greatest; a coordinate of a text of the shift, up to the greatest
+-- this word; a whole number from the least to the greatest; the number of a point; how many rows follow; a coordinate
+-- up to the greatest
 pub data Need : Type 0 where
   NeedWord : Word → Need
-  NeedNumber : Role → ℕ → ℕ → Need
-  NeedPlace : ℤ → ℕ → Need
+  NeedNumber : ℕ → ℕ → Need
+  NeedPoint : Need
+  NeedCount : Need
+  NeedPlace : ℕ → Need
 
 abbrev pub Given : Need → Type 0
 Given (NeedWord text) = Unit {0}
-Given (NeedNumber role least greatest) = ℕ
-Given (NeedPlace shift greatest) = ℤ
+Given (NeedNumber least greatest) = ℕ
+Given NeedPoint = ℕ
+Given NeedCount = ℕ
+Given (NeedPlace greatest) = ℤ
 
 -- a number that is not below the least
 abbrev pub from_least : ℕ → Option ℕ → Option ℕ
 from_least least None = None
 from_least least (Some n) = if nat_le least n then Some n else None
 
--- up / down with a sign, where that is whole and at most the greatest
-abbrev pub divided : Bool → ℕ → ℕ → ℕ → Option ℤ
-divided minus greatest up down = if up % down == 0 && nat_le (up / down) greatest
-    then Some (signed minus (up / down)) else None
+-- up / down, where that is whole and at most the greatest
+abbrev pub divided : ℕ → ℕ → ℕ → Option ℕ
+divided greatest up down =
+    if up % down == 0 && nat_le (up / down) greatest then Some (up / down) else None
 
--- the coordinate that a decimal times 10^k is
-abbrev pub place_of : ℤ → ℕ → Dec → Option ℤ
-place_of k greatest d = divided (is_negative d.digits) greatest
-    (unsigned_abs d.digits * tens (d.scale +ℤ k)) (15625 * tens (neg_ℤ (d.scale +ℤ k)))
+-- the grid steps of a decimal without its sign, where coordinates have k decimals
+abbrev pub steps_of : ℕ → ℕ → Dec → Option ℕ
+steps_of k greatest d = divided greatest (unsigned_abs d.digits * tens (d.scale +ℤ pos k))
+    (15625 * tens (neg_ℤ (d.scale +ℤ pos k)))
 
-abbrev pub place_in : ℤ → ℕ → Option Dec → Option ℤ
+-- the coordinate that it is
+abbrev pub place_of : ℕ → ℕ → Dec → Option ℤ
+place_of k greatest d = option_map (signed (is_negative d.digits)) (steps_of k greatest d)
+
+abbrev pub place_in : ℕ → ℕ → Option Dec → Option ℤ
 place_in k greatest None = None
 place_in k greatest (Some d) = place_of k greatest d
 
--- what the word gives where it is what is needed
-abbrev pub got : (need : Need) → Word → Option (Given need)
-got (NeedWord text) word = if bytes_eq word text then Some tt else None
-got (NeedNumber role least greatest) word = from_least least (whole_of word greatest)
-got (NeedPlace shift greatest) word = place_in (shift +ℤ pos 6) greatest (decimal_of word)
+-- what the word gives where it is what is needed and coordinates have k decimals
+abbrev pub got : ℕ → (need : Need) → Word → Option (Given need)
+got k (NeedWord text) word = if bytes_eq word text then Some tt else None
+got k (NeedNumber least greatest) word = from_least least (whole_of word greatest)
+got k NeedPoint word = whole_of word MOST_ROWS
+got k NeedCount word = whole_of word MOST_ROWS
+got k (NeedPlace greatest) word = place_in k greatest (decimal_of word)
 
 -- the refusal of another word, word number `at`
 abbrev pub refused : Need → ℕ → Word → VolRefusal
 refused (NeedWord text) at word = Syntax at
-refused (NeedNumber Plain least greatest) at word = NumberAt at
-refused (NeedNumber PointNumber least greatest) at word = NumberAt at
-refused (NeedNumber Count least greatest) at word = if is_whole word then TooMany at else NumberAt at
-refused (NeedPlace shift greatest) at word = NumberAt at
+refused (NeedNumber least greatest) at word = NumberAt at
+refused NeedPoint at word = NumberAt at
+refused NeedCount at word = if is_whole word then TooMany at else NumberAt at
+refused (NeedPlace greatest) at word = NumberAt at
 
 -- ---- forms
 
@@ -77,8 +89,9 @@ abbrev pub ◌>>=◌ : {A B : Type 0} → Form A → (A → Form B) → Form B
 (Leaf a) >>= next = next a
 (Ask need form) >>= next = Ask need (λ v. form v >>= next)
 
--- the number of the next word, and the words that are left
+-- how many decimals coordinates have, the number of the next word, and the words that are left
 pub record State : Type 0 where
+  pub places : ℕ
   pub at : ℕ
   pub left : List Word
 
@@ -89,17 +102,26 @@ abbrev pub and_then : {A B : Type 0} → Read A → (A → State → Read B) →
 and_then (Err e) next = Err e
 and_then (Ok (a, st)) next = next a st
 
-abbrev pub judged : (need : Need) → ℕ → Word → List Word → Option (Given need) → Read (Given need)
-judged need at word words None = Err (refused need at word)
-judged need at word words (Some v) = Ok (v, record { at = at + 1; left = words })
+-- behind the next word
+abbrev pub behind : State → List Word → State
+behind st words = record { places = st.places; at = st.at + 1; left = words }
 
-abbrev pub asked_at : (need : Need) → ℕ → List Word → Read (Given need)
-asked_at need at [] = Err (Syntax at)
-asked_at need at (word ∷ words) = judged need at word words (got need word)
+-- this was the next word, or none was left
+abbrev pub Taken : Option Word → State → State → Type 0
+Taken None old new = (old.left ≡ []) × (new ≡ old)
+Taken (Some word) old new = (old.left ≡ word ∷ new.left) × (new ≡ behind old new.left)
+
+abbrev pub judged : (need : Need) → State → Word → List Word → Option (Given need) → Read (Given need)
+judged need st word words None = Err (refused need st.at word)
+judged need st word words (Some v) = Ok (v, behind st words)
+
+abbrev pub asked_at : (need : Need) → State → List Word → Read (Given need)
+asked_at need st [] = Err (Syntax st.at)
+asked_at need st (word ∷ words) = judged need st word words (got st.places need word)
 
 -- the next word, where it is what is needed
 unfoldable pub asked : (need : Need) → State → Read (Given need)
-asked need st = asked_at need st.at st.left
+asked need st = asked_at need st st.left
 
 abbrev pub run : {A : Type 0} → Form A → State → Read A
 run (Leaf a) st = Ok (a, st)
@@ -111,16 +133,16 @@ abbrev pub said : Word → Form (Unit {0})
 said text = Ask (NeedWord text) Leaf
 
 abbrev pub number : ℕ → ℕ → Form ℕ
-number least greatest = Ask (NeedNumber Plain least greatest) Leaf
+number least greatest = Ask (NeedNumber least greatest) Leaf
 
 abbrev pub point_number : Form ℕ
-point_number = Ask (NeedNumber PointNumber 0 MOST_ROWS) Leaf
+point_number = Ask NeedPoint Leaf
 
 abbrev pub count : Form ℕ
-count = Ask (NeedNumber Count 0 MOST_ROWS) Leaf
+count = Ask NeedCount Leaf
 
-abbrev pub place : ℤ → ℕ → Form ℤ
-place shift greatest = Ask (NeedPlace shift greatest) Leaf
+abbrev pub place : ℕ → Form ℤ
+place greatest = Ask (NeedPlace greatest) Leaf
 
 unfoldable pub element_form : Form MeshElement
 element_form = do
@@ -150,11 +172,11 @@ edge_form = do
   y ← number 0 0
   Leaf (record { bc = bc; a = a; b = b; left = left; right = right; segment = segment })
 
-unfoldable pub point_form : ℤ → Form Point
-point_form shift = do
-  x ← place shift 1048576
-  y ← place shift 1048576
-  z ← place shift 0
+unfoldable pub point_form : Form Point
+point_form = do
+  x ← place 1048576
+  y ← place 1048576
+  z ← place 0
   Leaf (record { x = x; y = y })
 
 -- so many rows more, behind these
@@ -183,10 +205,10 @@ edges_form = do
   c ← said edgesegmentsgi2
   counted_rows edge_form
 
-unfoldable pub points_form : ℤ → Form (List Point)
-points_form shift = do
+unfoldable pub points_form : Form (List Point)
+points_form = do
   a ← said points_word
-  points ← counted_rows (point_form shift)
+  points ← counted_rows point_form
   b ← said endmesh
   Leaf points
 
@@ -194,14 +216,14 @@ unfoldable pub mesh_form : ℤ → Form Mesh
 mesh_form shift = do
   elements ← elements_form
   edges ← edges_form
-  points ← points_form shift
+  points ← points_form
   Leaf (record { shift = shift; points = points; edges = edges; elements = elements })
 
 -- ---- the whole
 
 -- at the first of these words
-abbrev pub at_start : List Word → State
-at_start words = record { at = 1; left = words }
+abbrev pub at_start : ℕ → List Word → State
+at_start k words = record { places = k; at = 1; left = words }
 
 -- nothing may be left
 abbrev pub ended_at : {A : Type 0} → A → ℕ → List Word → Result A VolRefusal
@@ -236,7 +258,7 @@ known (Ok m) = or_bad m (first_bad (length m.points) 1 (mesh_items m))
 
 -- the mesh that the words are a text of, or the refusal
 unfoldable pub mesh_of : ℤ → List Word → Result Mesh VolRefusal
-mesh_of shift words = known (ended (run (mesh_form shift) (at_start words)))
+mesh_of shift words = known (ended (run (mesh_form shift) (at_start (places shift) words)))
 
 -- ---- what calls return
 

@@ -17,6 +17,7 @@ use Rattle.vol_format.specs.declared.EdgeRow.{EdgeRow}
 use Rattle.vol_format.specs.declared.MeshElement.{MeshElement}
 use Rattle.vol_format.specs.declared.Mesh.{Mesh}
 use Rattle.vol_format.specs.declared.refusal.TheConstants.{MOST_ROWS}
+use Rattle.vol_format.specs.Vol.{places}
 
 abbrev pub Word : Type 0
 Word = List ℕ
@@ -104,18 +105,16 @@ abbrev pub tens : ℤ → ℕ
 tens (pos n) = 10 ^ n
 tens (negsuc n) = 1
 
--- the decimal d times 10^k is x grid steps, of which each is 15625
-abbrev pub IsPlace : ℤ → Dec → ℤ → Type 0
-IsPlace k d x = d.digits *ℤ pos (tens (d.scale +ℤ k))
-    ≡ x *ℤ pos (15625 * tens (neg_ℤ (d.scale +ℤ k)))
+-- where coordinates have k decimals: the decimal d is x grid steps, each of which is 15625 of the last
+abbrev pub IsPlace : ℕ → Dec → ℤ → Type 0
+IsPlace k d x = d.digits *ℤ pos (tens (d.scale +ℤ pos k))
+    ≡ x *ℤ pos (15625 * tens (neg_ℤ (d.scale +ℤ pos k)))
 
--- in a text of the shift: the word is this text, a whole number of this value, or a decimal that is this coordinate
--- times 15625 in units of 10^-(shift + 6)
-abbrev pub Says : ℤ → Word → Item → Type 0
-Says shift word (Fixed text) = word ≡ text
-Says shift word (Number role n) = IsWhole word × (value_of word ≡ n)
-Says shift word (Coordinate x) =
-    (d : Dec) × (decimal_of word ≡ Some d) × IsPlace (shift +ℤ pos 6) d x
+-- where coordinates have k decimals: the word is this text, a whole number of this value, or a decimal that is this coordinate
+abbrev pub Says : ℕ → Word → Item → Type 0
+Says k word (Fixed text) = word ≡ text
+Says k word (Number role n) = IsWhole word × (value_of word ≡ n)
+Says k word (Coordinate x) = (d : Dec) × (decimal_of word ≡ Some d) × IsPlace k d x
 
 -- ---- ranges
 
@@ -151,7 +150,7 @@ pub record InRanges (m : Mesh) : Type 0 where
 -- word by word these say what the mesh's text says, and its numbers are in their ranges
 pub record Derives (shift : ℤ) (words : List Word) (m : Mesh) : Type 0 where
   pub shifted : m.shift ≡ shift
-  pub says : AllZip (Says shift) words (mesh_items m)
+  pub says : AllZip (Says (places shift)) words (mesh_items m)
   pub ranges : InRanges m
 
 -- among so many points, a point number names one

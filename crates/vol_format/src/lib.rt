@@ -5,10 +5,12 @@
 //! begin at 1.
 #![tactic(auto)]
 
+mod coordinate;
 mod lists;
 mod read;
 mod reader;
 mod refusal;
+mod rows;
 #[cfg(test)]
 mod tests;
 mod write;
