@@ -28,6 +28,14 @@ fails_then (Number w) r total next ends so_far h = sym so_far ∙ ap next h ∙ 
 fails_then (BadIndex w) r total next ends so_far h = sym so_far ∙ ap next h ∙ ends (BadIndex w)
 fails_then (TooMany w) r total next ends so_far h = sym so_far ∙ ap next h ∙ ends (TooMany w)
 
+-- a refusal that was given back as it is
+pub fails_same : {A : Type 0} (e : VolRefusal) (r : Result A VolRefusal) → r ≡ Err e → Fails e r
+fails_same Memory r h = tt
+fails_same (Syntax w) r h = h
+fails_same (Number w) r h = h
+fails_same (BadIndex w) r h = h
+fails_same (TooMany w) r h = h
+
 -- ---- rows, as the loop reads them
 
 pub rows_go_on : {A : Type 0} (row : Form A) (rows : List A) (x : A) (n more : ℕ) (st after : State) (total : Read (List A)) → n ≡ suc more → run row st ≡ Ok (x, after)

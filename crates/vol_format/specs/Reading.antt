@@ -3,7 +3,8 @@
 -- Need       what the next word has to be, and what it then gives
 -- Form       what is needed word after word, as the words before it say, and the value in the end
 -- run        a form read from a place on: the value and the place behind it, or the refusal
--- mesh_form  the form of a mesh's text
+-- mesh_at    a mesh's text read from a place on
+-- walked     the first point number that names no point is refused
 -- mesh_of    the mesh that the words are a text of, or the refusal
 -- Gives      a call returned what reading gives, unless memory ran out
 use Rattle.std.specs.Prelude.{◌≡◌, ℕ, zero, suc, ◌+◌, ◌*◌, ◌/◌, ◌%◌, Bool, true, false, ◌&&◌, ◌||◌, ◌==◌, nat_lt, nat_le, if◌then◌else◌, List, [], ◌∷◌, ◌++◌, length, Option, Some, None, Result, Ok, Err, ℤ, pos, neg_ℤ, ◌+ℤ◌, unsigned_abs, option_map}
@@ -208,16 +209,18 @@ edges_form = do
 unfoldable pub points_form : Form (List Point)
 points_form = do
   a ← said points_word
-  points ← counted_rows point_form
-  b ← said endmesh
-  Leaf points
+  counted_rows point_form
 
-unfoldable pub mesh_form : ℤ → Form Mesh
-mesh_form shift = do
-  elements ← elements_form
-  edges ← edges_form
-  points ← points_form
-  Leaf (record { shift = shift; points = points; edges = edges; elements = elements })
+unfoldable pub ending_form : Form (Unit {0})
+ending_form = said endmesh
+
+-- the elements, the edge rows, the points, and the last word
+unfoldable pub mesh_at : ℤ → State → Read Mesh
+mesh_at shift st = and_then (run elements_form st) (λ elements a.
+    and_then (run edges_form a) (λ edges b.
+    and_then (run points_form b) (λ points c.
+    and_then (run ending_form c) (λ u d. Ok
+    (record { shift = shift; points = points; edges = edges; elements = elements }, d)))))
 
 -- ---- the whole
 
@@ -242,23 +245,23 @@ misnames points (Number Count n) = false
 misnames points (Fixed text) = false
 misnames points (Coordinate x) = false
 
--- the number of the first item that names no point, where the first of all has number `at`
-abbrev pub first_bad : ℕ → ℕ → List Item → Option ℕ
-first_bad points at [] = None
-first_bad points at (item ∷ items) = if misnames points item then Some at
-    else first_bad points (at + 1) items
+-- the first item that names no point is refused, where the first of all has number `at`; else the number behind the last
+abbrev pub walked : ℕ → ℕ → List Item → Result ℕ VolRefusal
+walked points at [] = Ok at
+walked points at (item ∷ items) = if misnames points item then Err (BadIndex at)
+    else walked points (at + 1) items
 
-abbrev pub or_bad : Mesh → Option ℕ → Result Mesh VolRefusal
-or_bad m None = Ok m
-or_bad m (Some at) = Err (BadIndex at)
+abbrev pub known_if : Mesh → Result ℕ VolRefusal → Result Mesh VolRefusal
+known_if m (Ok at) = Ok m
+known_if m (Err e) = Err e
 
 abbrev pub known : Result Mesh VolRefusal → Result Mesh VolRefusal
 known (Err e) = Err e
-known (Ok m) = or_bad m (first_bad (length m.points) 1 (mesh_items m))
+known (Ok m) = known_if m (walked (length m.points) 1 (mesh_items m))
 
 -- the mesh that the words are a text of, or the refusal
 unfoldable pub mesh_of : ℤ → List Word → Result Mesh VolRefusal
-mesh_of shift words = known (ended (run (mesh_form shift) (at_start (places shift) words)))
+mesh_of shift words = known (ended (mesh_at shift (at_start (places shift) words)))
 
 -- ---- what calls return
 

@@ -6,6 +6,7 @@
 #![tactic(auto)]
 
 mod coordinate;
+mod indices;
 mod lists;
 mod read;
 mod reader;

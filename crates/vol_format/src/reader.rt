@@ -5,7 +5,7 @@ ghost use Rattle.std.specs.Str.{bytes_eq};
 ghost use Rattle.word_scan.specs.Scan.{words_of};
 ghost use Rattle.word_scan.specs.Numerals.{whole_of, is_whole};
 ghost use Rattle.word_scan.specs.Decimals.{decimal_of};
-ghost use Rattle.vol_format.specs.Reading.{NeedWord, NeedNumber, NeedPoint, NeedCount, NeedPlace, asked, asked_at, from_least, place_in, Taken, GivesAt, at_start};
+ghost use Rattle.vol_format.specs.Reading.{NeedWord, NeedNumber, NeedPoint, NeedCount, NeedPlace, asked, asked_at, ended_at, from_least, place_in, Taken, GivesAt, at_start};
 
 use crate::coordinate;
 use crate::refusal::{MOST_ROWS, VolRefusal};
@@ -177,6 +177,17 @@ impl<'a> Reader<'a> {
         match place_in(word, places, greatest) {
             Some(place) => Ok(place),
             None => Err(VolRefusal::Number { word: at }),
+        }
+    }
+
+    /// Refuses the word that comes next, if one is left.
+    pub fn end(&mut self) -> Result<(), VolRefusal>
+        ensures { result ≡ ended_at tt self.old.at self.old.left }
+    {
+        let at = self.at();
+        match self.next() {
+            None => Ok(()),
+            Some(_) => Err(VolRefusal::Syntax { word: at }),
         }
     }
 }

@@ -2,7 +2,7 @@
 
 ghost use Rattle.std.specs.Prelude.{◌≡◌, ◌≤◌, ℕ, IfOk, length, List, []};
 ghost use Rattle.vol_format.specs.declared.refusal.VolRefusal.{VolRefusal};
-ghost use Rattle.vol_format.specs.Reading.{Form, GivesAt, State, run, rows_behind, counted_rows, elements_form, edges_form, points_form};
+ghost use Rattle.vol_format.specs.Reading.{Form, GivesAt, State, run, rows_behind, counted_rows, elements_form, edges_form, points_form, ending_form};
 
 use crate::reader::Reader;
 use crate::refusal::VolRefusal;
@@ -132,13 +132,20 @@ pub fn edges(alloc: Global, reader: &mut Reader<'_>) -> Result<Vec<EdgeRow>, Vol
     counted(alloc, reader)
 }
 
-/// The points, and the words before and behind them.
-#[tactic(auto, unfolding(crate::specs::Reading::points_form, crate::specs::Text::points_word, crate::specs::Text::endmesh))]
+/// The points, and the word before them.
+#[tactic(auto, unfolding(crate::specs::Reading::points_form, crate::specs::Text::points_word))]
 pub fn points(alloc: Global, reader: &mut Reader<'_>) -> Result<Vec<Point>, VolRefusal>
     ensures { GivesAt (λ x. x.items) result reader.new (run points_form reader.old) }
 {
     reader.said(b"points")?;
-    let points = counted(alloc, reader)?;
+    counted(alloc, reader)
+}
+
+/// The last word.
+#[tactic(auto, unfolding(crate::specs::Reading::ending_form, crate::specs::Text::endmesh))]
+pub fn ending(reader: &mut Reader<'_>) -> Result<(), VolRefusal>
+    ensures { GivesAt (λ x. x) result reader.new (run ending_form reader.old) }
+{
     reader.said(b"endmesh")?;
-    Ok(points)
+    Ok(())
 }
