@@ -7,6 +7,7 @@
 
 mod coordinate;
 mod indices;
+pub mod laws;
 mod lists;
 mod read;
 mod reader;
