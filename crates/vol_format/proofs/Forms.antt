@@ -9,7 +9,7 @@ then_again : {A B C : Type 0} (r : Read A) (f : A → State → Read B) (g : B �
 then_again (Ok x) f g h = refl
 then_again (Err e) f g h = refl
 
-then_same : {A B : Type 0} (r : Read A) (f g : A → State → Read B) → ((a : A) (st : State) → f a st ≡ g a st) → and_then r f ≡ and_then r g
+pub then_same : {A B : Type 0} (r : Read A) (f g : A → State → Read B) → ((a : A) (st : State) → f a st ≡ g a st) → and_then r f ≡ and_then r g
 then_same (Ok x) f g same = same x.0 x.1
 then_same (Err e) f g same = refl
 

@@ -83,20 +83,34 @@ split k (Ask need form) a items (w ∷ before) rest leads says =
     let s = split k (form leads.0) a leads.1 before rest leads.4 both.1 in
     record { left = s.left; front = item_of need leads.0 ∷ s.front; back = s.back; same = leads.2 ∙ ap (λ (xs : List Item). item_of need leads.0 ∷ xs) s.same; long = ap suc s.long; reach = (leads.0, says_got k need w leads.0 both.0 leads.3, s.reach); leads = s.leads; says = s.says }
 
--- a text of a form: words, what they say, and the value
-pub record Text {A : Type 0} (k : ℕ) (f : Form A) (words : List Word) : Type 0 where
+-- words that are a text of the value
+pub record Text {A : Type 0} (k : ℕ) (f : Form A) (words : List Word) (a : A) : Type 0 where
   pub items : List Item
-  pub value : A
-  pub leads : Leads f items value
+  pub leads : Leads f items a
   pub says : AllZip (Says k) words items
 
-pub join : {A : Type 0} (k : ℕ) (f g : Form A) (before rest : List Word) → Reach k f before g → Text k g rest → Text k f (before ++ rest)
-join k f g [] rest reach t = subst (λ (h : Form _). Text k h rest) (sym reach) t
-join k (Leaf a) g (w ∷ before) rest reach t = absurd reach
-join k (Ask need form) g (w ∷ before) rest reach t =
-    let s = join k (form reach.0) g before rest reach.2 t in
+pub join : {A : Type 0} (k : ℕ) (f g : Form A) (a : A) (before rest : List Word) → Reach k f before g → Text k g rest a → Text k f (before ++ rest) a
+join k f g a [] rest reach t = subst (λ (h : Form _). Text k h rest a) (sym reach) t
+join k (Leaf b) g a (w ∷ before) rest reach t = absurd reach
+join k (Ask need form) g a (w ∷ before) rest reach t =
+    let s = join k (form reach.0) g a before rest reach.2 t in
     let p = got_says k need w reach.0 reach.1 in
-    record { items = item_of need reach.0 ∷ s.items; value = s.value; leads = (reach.0, s.items, refl, p.1, s.leads); says = (p.0, s.says) }
+    record { items = item_of need reach.0 ∷ s.items; leads = (reach.0, s.items, refl, p.1, s.leads); says = (p.0, s.says) }
+
+-- one form is left
+pub reach_one : {A : Type 0} (k : ℕ) (f g h : Form A) (before : List Word) → Reach k f before g → Reach k f before h → g ≡ h
+reach_one k f g h [] p q = sym p ∙ q
+reach_one k (Leaf a) g h (w ∷ before) p q = absurd p
+reach_one k (Ask need form) g h (w ∷ before) p q =
+    let both : Some p.0 ≡ Some q.0 = sym p.1 ∙ q.1 in
+    let same : q.0 ≡ p.0 = cc in
+    reach_one k (form p.0) g h before p.2 (subst (λ (v : Given need). Reach k (form v) before h) same q.2)
+
+-- a word more
+pub reach_more : {A : Type 0} (k : ℕ) (f : Form A) (need : Need) (form : Given need → Form A) (before : List Word) (w : Word) (v : Given need) → Reach k f before (Ask need form) → got k need w ≡ Some v → Reach k f (before ++ w ∷ []) (form v)
+reach_more k f need form [] w v reach e = subst (λ (h : Form _). Reach k h (w ∷ []) (form v)) (sym reach) (v, e, refl)
+reach_more k (Leaf a) need form (x ∷ before) w v reach e = absurd reach
+reach_more k (Ask other more) need form (x ∷ before) w v reach e = (reach.0, reach.1, reach_more k (more reach.0) need form before w v reach.2 e)
 
 pub reach_good : {A : Type 0} (k : ℕ) (f g : Form A) (before : List Word) → Reach k f before g → Good k f → Good k g
 reach_good k f g [] reach good = subst (λ (h : Form _). Good k h) reach good
@@ -104,12 +118,12 @@ reach_good k (Leaf a) g (w ∷ before) reach good = absurd reach
 reach_good k (Ask need form) g (w ∷ before) reach good = reach_good k (form reach.0) g before reach.2 (good.3 w reach.0 reach.1)
 
 -- a good form has a text
-pub some_text : {A : Type 0} (k : ℕ) (f : Form A) → Good k f → (words : List Word) × Text k f words
-some_text k (Leaf a) good = ([], record { items = []; value = a; leads = (refl, refl); says = tt })
+pub some_text : {A : Type 0} (k : ℕ) (f : Form A) → Good k f → (words : List Word) × (a : A) × Text k f words a
+some_text k (Leaf a) good = ([], a, record { items = []; leads = (refl, refl); says = tt })
 some_text k (Ask need form) good =
     let s = some_text k (form good.1) (good.3 good.0 good.1 good.2) in
     let p = got_says k need good.0 good.1 good.2 in
-    (good.0 ∷ s.0, record { items = item_of need good.1 ∷ s.1.items; value = s.1.value; leads = (good.1, s.1.items, refl, p.1, s.1.leads); says = (p.0, s.1.says) })
+    (good.0 ∷ s.0, s.1, record { items = item_of need good.1 ∷ s.2.items; leads = (good.1, s.2.items, refl, p.1, s.2.leads); says = (p.0, s.2.says) })
 
 -- ---- how reading ends
 

@@ -8,6 +8,10 @@ pub mod Asks
 pub mod Leads
 -- the words of a mesh say the mesh
 pub mod Meshes
+-- each front of a text goes on to a text
+pub mod Texts
+-- what is read to its end is a text
+pub mod Derived
 -- point numbers, walked over item by item
 pub mod Walked
 -- reading a form, part by part

@@ -200,13 +200,13 @@ ending_whole : Leads ending_form (Fixed endmesh ∷ []) tt
 unfolding ending_form
 ending_whole = (tt, _, refl, tt, (refl, refl))
 
-abbrev after_points : ℤ → List MeshElement → List EdgeRow → List Point → Form Mesh
+abbrev pub after_points : ℤ → List MeshElement → List EdgeRow → List Point → Form Mesh
 after_points shift elements edges points = ending_form >>= λ u. Leaf (record { shift = shift; points = points; edges = edges; elements = elements })
 
-abbrev after_edges : ℤ → List MeshElement → List EdgeRow → Form Mesh
+abbrev pub after_edges : ℤ → List MeshElement → List EdgeRow → Form Mesh
 after_edges shift elements edges = points_form >>= λ points. after_points shift elements edges points
 
-abbrev after_elements : ℤ → List MeshElement → Form Mesh
+abbrev pub after_elements : ℤ → List MeshElement → Form Mesh
 after_elements shift elements = edges_form >>= λ edges. after_edges shift elements edges
 
 -- the form of a mesh's text
