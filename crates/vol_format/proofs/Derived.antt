@@ -32,7 +32,7 @@ run_mesh shift st =
 abbrev pub text_read : ℤ → List Word → Result Mesh VolRefusal
 text_read shift words = ended (mesh_at shift (at_start (places shift) words))
 
-as_run : (shift : ℤ) (words : List Word) → ended (run (mesh_form shift) (spot (places shift) 1 words)) ≡ text_read shift words
+pub as_run : (shift : ℤ) (words : List Word) → ended (run (mesh_form shift) (spot (places shift) 1 words)) ≡ text_read shift words
 as_run shift words = ap ended (run_mesh shift (spot (places shift) 1 words))
 
 -- ---- texts

@@ -12,6 +12,10 @@ pub mod Meshes
 pub mod Texts
 -- what is read to its end is a text
 pub mod Derived
+-- the first point number that names no point
+pub mod PointNumbers
+-- refusals
+pub mod Refused
 -- point numbers, walked over item by item
 pub mod Walked
 -- reading a form, part by part
