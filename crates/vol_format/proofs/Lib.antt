@@ -16,6 +16,7 @@ pub mod Derived
 pub mod PointNumbers
 -- refusals
 pub mod Refused
+pub mod Told
 -- point numbers, walked over item by item
 pub mod Walked
 -- reading a form, part by part

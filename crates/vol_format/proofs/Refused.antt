@@ -22,14 +22,14 @@ use Rattle.vol_format.proofs.PointNumbers.{Checked, IsKnown, IsBad, checked, kno
 -- ---- the refusal of a word, by what is needed
 
 -- a whole number that is no count is past the limit
-past_limit : (w : Word) → is_whole w ≡ true → got 0 NeedCount w ≡ None → MOST_ROWS < value_of w
+pub past_limit : (w : Word) → is_whole w ≡ true → got 0 NeedCount w ≡ None → MOST_ROWS < value_of w
 past_limit w whole none = by_order (nat_le (value_of w) MOST_ROWS) refl
   where
     by_order : (b : Bool) → nat_le (value_of w) MOST_ROWS ≡ b → MOST_ROWS < value_of w
     by_order true e = let some : whole_of w MOST_ROWS ≡ Some (value_of w) = rw (whole, e) refl in absurd cc
     by_order false e = leb-false (value_of w) MOST_ROWS e
 
-not_both : (b : Bool) → b ≡ true → b ≡ false → ⊥
+pub not_both : (b : Bool) → b ≡ true → b ≡ false → ⊥
 not_both b p q = let both : true ≡ false = sym p ∙ q in absurd cc
 
 refused_word : (need : Need) (v : Given need) (at : ℕ) (w : Word) → (IsNumber (item_of need v) → ⊥) → refused need at w ≡ Syntax at
