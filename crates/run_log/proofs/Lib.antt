@@ -8,3 +8,6 @@ pub mod Loops
 pub mod Steps
 pub mod Rising
 pub mod Count
+pub mod Kept
+pub mod Sides
+pub mod Viewed

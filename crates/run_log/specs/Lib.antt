@@ -10,3 +10,4 @@ pub mod Numbers
 pub mod Grammar
 pub mod View
 pub mod Reading
+pub mod Table

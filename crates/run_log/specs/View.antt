@@ -7,13 +7,15 @@
 -- HasState         the log has this run of the domain, and it has so many applications
 -- Shows            what a view of a state shows
 -- HasNoState       the log has no such state
-use Rattle.std.specs.Prelude.{◌≡◌, ℕ, ◌+◌, ◌<◌, ◌≤◌, List, [], ◌∷◌, length, take}
+use Rattle.std.specs.Prelude.{◌≡◌, ℕ, ◌+◌, ◌<◌, ◌≤◌, nat_lt, if◌then◌else◌, List, [], ◌∷◌, length, take, Option, None, Some, Result, Ok, Err}
 use Rattle.std.specs.List.{flat_map, AllByRecursion, Contains}
 use Rattle.mesh_run.specs.declared.domain_run.DomainRun.{DomainRun}
 use Rattle.state_law.specs.State.{number_sides, glue_lines}
 use Rattle.front_chain.specs.Front.{numbered_from}
 use Rattle.run_log.specs.declared.log.Log.{Log}
-use Rattle.run_log.specs.declared.view.View.{View}
+use Rattle.run_log.specs.declared.refusal.LogRefusal.{LogRefusal}
+use Rattle.run_log.specs.declared.refusal.LogRefusal.TheVariants.{NoState}
+use Rattle.run_log.specs.declared.state.View.{View}
 
 -- the elements of the first k applications
 abbrev pub elements_made : DomainRun → ℕ → List (List ℕ)
@@ -46,3 +48,9 @@ pub record Shows (log : Log) (domain k : ℕ) (view : View) : Type 0 where
 
 abbrev pub HasNoState : Log → ℕ → ℕ → Type 0
 HasNoState log domain k = (run : DomainRun) → HasState log domain k run → ⊥
+
+-- inner: what is shown of the run that was found
+abbrev pub viewed : Option DomainRun → ℕ → ℕ → Result View LogRefusal
+viewed None domain k = Err (NoState domain k)
+viewed (Some run) domain k =
+    if nat_lt (length run.applications) k then Err (NoState domain k) else Ok (view_of run k)

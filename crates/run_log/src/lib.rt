@@ -15,16 +15,19 @@ mod reading;
 mod refusal;
 mod rows;
 mod runs;
+mod state;
 mod summary;
+mod table;
 #[cfg(test)]
 mod tests;
-mod view;
+mod viewing;
 mod words;
 mod write;
 
 pub use log::Log;
 pub use reading::read_log;
 pub use refusal::LogRefusal;
+pub use state::View;
 pub use summary::write_summary;
-pub use view::View;
+pub use viewing::view;
 pub use write::write_log;

@@ -1,4 +1,4 @@
-//! A domain's front after some of its applications, as a log tells it.
+//! What a view shows.
 
 use mesh_run::FrontRows;
 
