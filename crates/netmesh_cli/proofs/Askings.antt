@@ -8,12 +8,12 @@ use Rattle.netmesh_cli.specs.declared.words_fault.WordsFault.{WordsFault}
 use Rattle.netmesh_cli.specs.declared.outcome.Outcome.{Outcome}
 use Rattle.netmesh_cli.specs.declared.outcome.Outcome.TheVariants.{Done, Stuck, Stopped, Good, Bad, Shown, Refused}
 use Rattle.netmesh_cli.specs.declared.outcome.Refusal.{Refusal}
-use Rattle.netmesh_cli.specs.declared.outcome.Refusal.TheVariants.{Words, In2d, Geometry, Rules, Folder, Out, Memory, NotYet}
+use Rattle.netmesh_cli.specs.declared.outcome.Refusal.TheVariants.{Words, In2d, Geometry, Rules, Vol, Log, Folder, Out, Memory, NotYet}
 use Rattle.netmesh_cli.specs.Commands.{Task, MeshTask, MeshOf, GeomOf, RulesOf, CheckOf, ViewOf, ReplayOf, GenOf, IsCommand, IsFault}
 use Rattle.netmesh_cli.specs.Words.{IsUnbuilt, AskForUnbuilt, WordsRefused}
 use Rattle.netmesh_cli.specs.Causes.{IsUntaken}
 use Rattle.netmesh_cli.specs.Taking.{TakesRefused}
-use Rattle.netmesh_cli.specs.Jobs.{Job, MeshJob, GeomJob, RulesJob, task_of_job, takes_of, puts_of}
+use Rattle.netmesh_cli.specs.Jobs.{Job, MeshJob, GeomJob, RulesJob, CheckJob, ViewJob, task_of_job, takes_of, puts_of}
 use Rattle.netmesh_cli.specs.Served.{AreApart, RefusalCause, RefusalStands, Keeps, WrittenBefore}
 use Rattle.netmesh_cli.specs.Top.{IsNotYetOrMemory, IsWordsOrMemory, IfServed, IfRefused, WordsAnswer, WordsCause, Answers, Exactly, HoldsMesh, Telling}
 use Rattle.netmesh_cli.proofs.Exclusion.{one_fault, never_both, one_command}
@@ -33,6 +33,8 @@ memory_alone words task built asked (Folder name number) refused = absurd refuse
 memory_alone words task built asked Out refused = absurd refused
 memory_alone words task built asked Memory refused = refl
 memory_alone words task built asked (Rules fault) refused = absurd refused
+memory_alone words task built asked (Vol fault) refused = absurd refused
+memory_alone words task built asked (Log fault) refused = absurd refused
 memory_alone words task built asked (NotYet part) refused = absurd (built (subst IsUnbuilt (one_command words refused.1.task task refused.1.command asked) refused.1.unbuilt))
 
 at_fault : (words : List (List ℕ)) (fault : WordsFault) → IsFault words fault → (r : Refusal) → WordsRefused words r → IsWordsOrMemory fault r
@@ -43,6 +45,8 @@ at_fault words fault is (Folder name number) refused = absurd refused
 at_fault words fault is Out refused = absurd refused
 at_fault words fault is Memory refused = tt
 at_fault words fault is (Rules why) refused = absurd refused
+at_fault words fault is (Vol why) refused = absurd refused
+at_fault words fault is (Log why) refused = absurd refused
 at_fault words fault is (NotYet part) refused = absurd (never_both words refused.1.task fault refused.1.command is)
 
 not_built : (words : List (List ℕ)) → AskForUnbuilt words → (r : Refusal) → WordsRefused words r → IsNotYetOrMemory 1 r
@@ -53,6 +57,8 @@ not_built words ask (Folder name number) refused = absurd refused
 not_built words ask Out refused = absurd refused
 not_built words ask Memory refused = tt
 not_built words ask (Rules fault) refused = absurd refused
+not_built words ask (Vol fault) refused = absurd refused
+not_built words ask (Log fault) refused = absurd refused
 not_built words ask (NotYet part) refused = refused.0
 
 pub answer_at_fault : (words : List (List ℕ)) (s : FolderState) (o0 o1 : SinkState) (given result : Refusal) → WordsRefused words given → Telling o0 o1 given result → (fault : WordsFault) → IsFault words fault → WordsAnswer (IsWordsOrMemory fault) (Refused result) s s
@@ -72,14 +78,16 @@ pub job_is_built : (job : Job) → ¬ IsUnbuilt (task_of_job job)
 job_is_built (MeshJob task) unbuilt = unbuilt
 job_is_built (GeomJob geometry) unbuilt = unbuilt
 job_is_built (RulesJob rules) unbuilt = unbuilt
+job_is_built (CheckJob geometry mesh) unbuilt = unbuilt
+job_is_built (ViewJob log domain step) unbuilt = unbuilt
 
 -- a task is asked for by one job
 job_in : Job → Task → Job
 job_in other (MeshOf task) = MeshJob task
 job_in other (GeomOf name) = GeomJob name
 job_in other (RulesOf name) = RulesJob name
-job_in other (CheckOf _ _) = other
-job_in other (ViewOf _ _ _) = other
+job_in other (CheckOf geometry mesh) = CheckJob geometry mesh
+job_in other (ViewOf log domain step) = ViewJob log domain step
 job_in other (ReplayOf _ _ _) = other
 job_in other (GenOf _ _) = other
 
@@ -88,6 +96,8 @@ unfolding job_in
 job_again other (MeshJob task) = refl
 job_again other (GeomJob geometry) = refl
 job_again other (RulesJob rules) = refl
+job_again other (CheckJob geometry mesh) = refl
+job_again other (ViewJob log domain step) = refl
 
 pub one_job : (words : List (List ℕ)) (job other : Job) → IsCommand words (task_of_job job) → IsCommand words (task_of_job other) → job ≡ other
 one_job words job other first second = sym (job_again job job) ∙ ap (job_in job) (one_command words (task_of_job job) (task_of_job other) first second) ∙ job_again job other
@@ -97,6 +107,8 @@ pub job_apart : (words : List (List ℕ)) (job : Job) → IsCommand words (task_
 job_apart words (MeshJob task) command = (λ listed. elim listed [ inl same ↦ command.3.2 (sym same) | inr none ↦ none ], ((λ none. none), tt))
 job_apart words (GeomJob geometry) command = tt
 job_apart words (RulesJob rules) command = tt
+job_apart words (CheckJob geometry mesh) command = tt
+job_apart words (ViewJob log domain step) command = tt
 
 -- ---- memory is refused for words that ask for what is built
 
@@ -130,6 +142,8 @@ unwritten_words words w (Words fault) refused = refl
 unwritten_words words w (In2d fault) refused = refl
 unwritten_words words w (Geometry fault) refused = refl
 unwritten_words words w (Rules fault) refused = refl
+unwritten_words words w (Vol fault) refused = refl
+unwritten_words words w (Log fault) refused = refl
 unwritten_words words w (Folder name number) refused = refl
 unwritten_words words w Out refused = absurd refused
 unwritten_words words w Memory refused = refl
@@ -144,6 +158,8 @@ cause_of_words words job s0 s1 u (Words fault) cause = absurd cause
 cause_of_words words job s0 s1 u (In2d fault) cause = tt
 cause_of_words words job s0 s1 u (Geometry fault) cause = tt
 cause_of_words words job s0 s1 u (Rules fault) cause = tt
+cause_of_words words job s0 s1 u (Vol fault) cause = tt
+cause_of_words words job s0 s1 u (Log fault) cause = tt
 cause_of_words words job s0 s1 u (Folder name number) cause = tt
 cause_of_words words job s0 s1 u Out cause = tt
 cause_of_words words job s0 s1 u Memory cause = tt

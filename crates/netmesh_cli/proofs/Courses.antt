@@ -7,11 +7,11 @@ use Rattle.folder_io.specs.Names.{Files, held_at}
 use Rattle.folder_io.specs.States.{FolderState, SinkState, FailedFor}
 use Rattle.netmesh_cli.specs.declared.outcome.Outcome.{Outcome}
 use Rattle.netmesh_cli.specs.declared.outcome.Refusal.{Refusal}
-use Rattle.netmesh_cli.specs.declared.outcome.Refusal.TheVariants.{Words, In2d, Geometry, Rules, Folder, Out, Memory, NotYet}
+use Rattle.netmesh_cli.specs.declared.outcome.Refusal.TheVariants.{Words, In2d, Geometry, Rules, Vol, Log, Folder, Out, Memory, NotYet}
 use Rattle.netmesh_cli.specs.Causes.{PutRefused, AnswerRefused, AnswerLeaves, IsUntaken}
 use Rattle.netmesh_cli.specs.Taking.{AreAccepted, TakesRefused}
 use Rattle.netmesh_cli.specs.declared.made.Put.{Put as PutValue}
-use Rattle.netmesh_cli.specs.Jobs.{put_of, Job, MeshJob, GeomJob, RulesJob, takes_of, puts_of, Put, Made, Makes, names_of_puts}
+use Rattle.netmesh_cli.specs.Jobs.{put_of, Job, MeshJob, GeomJob, RulesJob, CheckJob, ViewJob, takes_of, puts_of, Put, Made, Makes, names_of_puts}
 use Rattle.netmesh_cli.specs.Served.{IsListed, AreApart, put_all, IsServed, IsAnswer, StopsAt, StopsAtPut, PutsRefused, HasAll, WrittenBefore, MakeRefused, Course, at_make, at_put, at_answer, of_take, of_put, RefusalCause, FolderStands, RefusalStands, Keeps, ArePutInOrder}
 use Rattle.netmesh_cli.proofs.Tolds.{told_weaker, told_as_before, told_both_weaker, told_before, told_then}
 use Rattle.netmesh_cli.proofs.Firsts.{named, no_out, no_words}
@@ -24,6 +24,8 @@ pub makes_names : (job : Job) (files : Files) (made : Made) → Makes job files 
 makes_names (MeshJob task) files made makes = ap names_of_puts makes.puts
 makes_names (GeomJob geometry) files made makes = ap names_of_puts makes.puts
 makes_names (RulesJob rules) files made makes = ap names_of_puts makes.puts
+makes_names (CheckJob geometry mesh) files made makes = ap names_of_puts makes.puts
+makes_names (ViewJob log domain step) files made makes = ap names_of_puts makes.puts
 
 -- of files that are accepted
 pub makes_accepted : (job : Job) (files : Files) (made : Made) → Makes job files made → AreAccepted (takes_of job) files
@@ -37,6 +39,25 @@ makes_accepted (MeshJob task) files made makes = let rules = makes.rules in (
 )
 makes_accepted (GeomJob geometry) files made makes = (record { bytes = makes.held.bytes; holds = makes.held.holds; accepted = record { raw = makes.raw; geometry = makes.geometry; written = makes.held.written } }, tt)
 makes_accepted (RulesJob rules) files made makes = (record { bytes = makes.held.bytes; holds = makes.held.holds; accepted = record { rules = makes.rules; are = makes.held.are } }, tt)
+makes_accepted (CheckJob geometry mesh) files made makes = (
+  record { bytes = makes.held.bytes; holds = makes.held.holds; accepted = record { raw = makes.raw; geometry = makes.grid; written = makes.held.written } },
+  (
+    record {
+      bytes = makes.mesh_held.bytes;
+      holds = makes.mesh_held.holds;
+      accepted = record { raw = makes.raw; grid = makes.grid; held = makes.held; mesh = makes.read; written = makes.mesh_held.written };
+    },
+    tt,
+  ),
+)
+makes_accepted (ViewJob log domain step) files made makes = (
+  record {
+    bytes = makes.held.bytes;
+    holds = makes.held.holds;
+    accepted = record { view = makes.view; is = makes.held.state };
+  },
+  tt,
+)
 
 -- ---- the exits of a call
 
@@ -46,6 +67,8 @@ make_refused job before now (Words fault) refused = refused
 make_refused job before now (In2d fault) refused = refused
 make_refused job before now (Geometry fault) refused = refused
 make_refused job before now (Rules fault) refused = refused
+make_refused job before now (Vol fault) refused = refused
+make_refused job before now (Log fault) refused = refused
 make_refused job before now (Folder name number) refused = refused
 make_refused job before now Out refused = refused
 make_refused job before now Memory refused = tt
@@ -93,6 +116,8 @@ written_answer job made held w0 w1 bytes (Words fault) is makes leaves = leaves
 written_answer job made held w0 w1 bytes (In2d fault) is makes leaves = leaves
 written_answer job made held w0 w1 bytes (Geometry fault) is makes leaves = leaves
 written_answer job made held w0 w1 bytes (Rules fault) is makes leaves = leaves
+written_answer job made held w0 w1 bytes (Vol fault) is makes leaves = leaves
+written_answer job made held w0 w1 bytes (Log fault) is makes leaves = leaves
 written_answer job made held w0 w1 bytes (Folder name number) is makes leaves = leaves
 written_answer job made held w0 w1 bytes Out is makes leaves = (bytes, told_weaker held _ _ (λ files m. (made, m, is)) makes, leaves)
 written_answer job made held w0 w1 bytes Memory is makes leaves = leaves
@@ -104,6 +129,8 @@ unwritten IsAnswer w (Words fault) other = refl
 unwritten IsAnswer w (In2d fault) other = refl
 unwritten IsAnswer w (Geometry fault) other = refl
 unwritten IsAnswer w (Rules fault) other = refl
+unwritten IsAnswer w (Vol fault) other = refl
+unwritten IsAnswer w (Log fault) other = refl
 unwritten IsAnswer w (Folder name number) other = refl
 unwritten IsAnswer w Out other = absurd (other refl)
 unwritten IsAnswer w Memory other = refl
@@ -126,6 +153,8 @@ cause_at_make job s0 s1 untaken (Words fault) refused = no_words fault s0 s1 (ta
 cause_at_make job s0 s1 untaken (In2d fault) refused = refused
 cause_at_make job s0 s1 untaken (Geometry fault) refused = refused
 cause_at_make job s0 s1 untaken (Rules fault) refused = refused
+cause_at_make job s0 s1 untaken (Vol fault) refused = refused
+cause_at_make job s0 s1 untaken (Log fault) refused = refused
 cause_at_make job s0 s1 untaken (Folder name number) refused = of_take refused
 cause_at_make job s0 s1 untaken Out refused = absurd (no_out s0 s1 (takes_of job) refused)
 cause_at_make job s0 s1 untaken Memory refused = tt
@@ -136,6 +165,8 @@ cause_at_put job s0 s1 untaken name (Words fault) listed accepted refused = absu
 cause_at_put job s0 s1 untaken name (In2d fault) listed accepted refused = absurd refused
 cause_at_put job s0 s1 untaken name (Geometry fault) listed accepted refused = absurd refused
 cause_at_put job s0 s1 untaken name (Rules fault) listed accepted refused = absurd refused
+cause_at_put job s0 s1 untaken name (Vol fault) listed accepted refused = absurd refused
+cause_at_put job s0 s1 untaken name (Log fault) listed accepted refused = absurd refused
 cause_at_put job s0 s1 untaken name (Folder named number) listed accepted refused = of_put
     (subst (λ (n : List ℕ). IsListed n (puts_of job)) (sym refused.0) listed) accepted refused.1
     (subst (λ (n : List ℕ). FailedFor s0 s1 n) (sym refused.0) refused.2)
@@ -148,6 +179,8 @@ cause_at_answer job s0 s1 o0 o1 (Words fault) accepted refused = absurd refused
 cause_at_answer job s0 s1 o0 o1 (In2d fault) accepted refused = absurd refused
 cause_at_answer job s0 s1 o0 o1 (Geometry fault) accepted refused = absurd refused
 cause_at_answer job s0 s1 o0 o1 (Rules fault) accepted refused = absurd refused
+cause_at_answer job s0 s1 o0 o1 (Vol fault) accepted refused = absurd refused
+cause_at_answer job s0 s1 o0 o1 (Log fault) accepted refused = absurd refused
 cause_at_answer job s0 s1 o0 o1 (Folder name number) accepted refused = absurd refused
 cause_at_answer job s0 s1 o0 o1 Out accepted refused = (accepted, refused)
 cause_at_answer job s0 s1 o0 o1 Memory accepted refused = tt
@@ -194,6 +227,8 @@ stands_at_make job s0 s1 (Words fault) refused files = refl
 stands_at_make job s0 s1 (In2d fault) refused files = refl
 stands_at_make job s0 s1 (Geometry fault) refused files = refl
 stands_at_make job s0 s1 (Rules fault) refused files = refl
+stands_at_make job s0 s1 (Vol fault) refused files = refl
+stands_at_make job s0 s1 (Log fault) refused files = refl
 stands_at_make job s0 s1 (Folder name number) refused files = record {
   not_failed = λ other. refl;
   not_put = λ away. refl;
@@ -217,6 +252,8 @@ stands_at_put job name s0 s1 (Words fault) listed refused old new s = absurd ref
 stands_at_put job name s0 s1 (In2d fault) listed refused old new s = absurd refused
 stands_at_put job name s0 s1 (Geometry fault) listed refused old new s = absurd refused
 stands_at_put job name s0 s1 (Rules fault) listed refused old new s = absurd refused
+stands_at_put job name s0 s1 (Vol fault) listed refused old new s = absurd refused
+stands_at_put job name s0 s1 (Log fault) listed refused old new s = absurd refused
 stands_at_put job name s0 s1 (Folder other number) listed refused old new s = subst (λ (n : List ℕ). FolderStands job old new n number) (sym refused.0) (folder_stands job name number old new listed refused.1 s)
 stands_at_put job name s0 s1 Out listed refused old new s = absurd refused
 stands_at_put job name s0 s1 Memory listed refused old new s = tt
@@ -227,6 +264,8 @@ stands_at_answer job o0 o1 (Words fault) refused old new s = absurd refused
 stands_at_answer job o0 o1 (In2d fault) refused old new s = absurd refused
 stands_at_answer job o0 o1 (Geometry fault) refused old new s = absurd refused
 stands_at_answer job o0 o1 (Rules fault) refused old new s = absurd refused
+stands_at_answer job o0 o1 (Vol fault) refused old new s = absurd refused
+stands_at_answer job o0 o1 (Log fault) refused old new s = absurd refused
 stands_at_answer job o0 o1 (Folder name number) refused old new s = absurd refused
 stands_at_answer job o0 o1 Out refused old new s = s
 stands_at_answer job o0 o1 Memory refused old new s = tt

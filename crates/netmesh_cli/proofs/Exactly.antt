@@ -8,7 +8,7 @@ use Rattle.folder_io.specs.States.{FolderState}
 use Rattle.netmesh_cli.specs.declared.outcome.Outcome.{Outcome}
 use Rattle.netmesh_cli.specs.declared.outcome.Outcome.TheVariants.{Refused}
 use Rattle.netmesh_cli.specs.declared.outcome.Refusal.{Refusal}
-use Rattle.netmesh_cli.specs.declared.outcome.Refusal.TheVariants.{Words, In2d, Geometry, Rules, Folder, Out, Memory, NotYet}
+use Rattle.netmesh_cli.specs.declared.outcome.Refusal.TheVariants.{Words, In2d, Geometry, Rules, Vol, Log, Folder, Out, Memory, NotYet}
 use Rattle.netmesh_cli.specs.Causes.{IsMemory, HasFailed}
 use Rattle.netmesh_cli.specs.Taking.{AreAccepted, FirstRefused, TakesRefused}
 use Rattle.netmesh_cli.specs.Jobs.{Job, takes_of, EndsSo}
@@ -34,6 +34,8 @@ first_of job s0 s1 u files (Words fault) e away cause = absurd cause
 first_of job s0 s1 u files (In2d fault) e away cause = takes_told s0 s1 files (In2d fault) (takes_of job) e cause
 first_of job s0 s1 u files (Geometry fault) e away cause = takes_told s0 s1 files (Geometry fault) (takes_of job) e cause
 first_of job s0 s1 u files (Rules fault) e away cause = takes_told s0 s1 files (Rules fault) (takes_of job) e cause
+first_of job s0 s1 u files (Vol fault) e away cause = takes_told s0 s1 files (Vol fault) (takes_of job) e cause
+first_of job s0 s1 u files (Log fault) e away cause = takes_told s0 s1 files (Log fault) (takes_of job) e cause
 first_of job s0 s1 u files (Folder name number) e away cause = folder_first job s0 s1 files name number e cause
 first_of job s0 s1 u files Out e away cause = absurd (away (at_told s0.held (AreAccepted (takes_of job)) files e cause.0))
 first_of job s0 s1 u files Memory e away cause = inr tt
@@ -52,6 +54,8 @@ memory_alone job s0 s1 u files (Words fault) e all unfailed taken cause = absurd
 memory_alone job s0 s1 u files (In2d fault) e all unfailed taken cause = absurd (take_free job s0 s1 files (In2d fault) e all cause)
 memory_alone job s0 s1 u files (Geometry fault) e all unfailed taken cause = absurd (take_free job s0 s1 files (Geometry fault) e all cause)
 memory_alone job s0 s1 u files (Rules fault) e all unfailed taken cause = absurd (take_free job s0 s1 files (Rules fault) e all cause)
+memory_alone job s0 s1 u files (Vol fault) e all unfailed taken cause = absurd (take_free job s0 s1 files (Vol fault) e all cause)
+memory_alone job s0 s1 u files (Log fault) e all unfailed taken cause = absurd (take_free job s0 s1 files (Log fault) e all cause)
 memory_alone job s0 s1 u files (Folder name number) e all unfailed taken cause = absurd (unfailed (folder_free job s0 s1 files name number e all cause))
 memory_alone job s0 s1 u files Out e all unfailed taken cause = absurd (taken cause.1)
 memory_alone job s0 s1 u files Memory e all unfailed taken cause = tt

@@ -1,5 +1,6 @@
 -- A geometry that is refused is not accepted, and has one fault, a text writes one geometry, which lies on the grid in one way, and a rule file has one list of rules.
 use Rattle.std.proofs.Common.{◌≡◌, ◌≢◌, ◌⊎◌, inl, inr, List, ℕ, sym, subst, ◌∙◌}
+use Rattle.std.specs.Prelude.{ℤ}
 use Rattle.word_scan.specs.Scan.{words_of}
 use Rattle.in2d_reader.specs.declared.geometry.RawGeometry.{RawGeometry}
 use Rattle.in2d_reader.specs.declared.refusal.In2dRefusal.{In2dRefusal}
@@ -18,7 +19,12 @@ use Rattle.geom_check.specs.Geometry.{PlanarMap, IsGeometryOf}
 use Rattle.geom_check.proofs.OneAnswer.{accepted_unrefused}
 use Rattle.geom_check.proofs.OneRefusal.{one_refusal}
 use Rattle.geom_check.proofs.OneGeometry.{one_geometry}
-use Rattle.netmesh_cli.specs.Accepted.{IsText, IsTextFault, IsGeometryText, AreRules, IsRulesFault}
+use Rattle.vol_format.specs.declared.refusal.VolRefusal.{VolRefusal}
+use Rattle.vol_format.proofs.Refused.{one_refusal as one_mesh_refusal}
+use Rattle.run_log.specs.declared.log.Log.{Log}
+use Rattle.run_log.specs.declared.refusal.LogRefusal.{LogRefusal}
+use Rattle.run_log.proofs.Answered.{one_value as one_log, one_refusal as one_log_refusal}
+use Rattle.netmesh_cli.specs.Accepted.{IsText, IsTextFault, IsGeometryText, AreRules, IsRulesFault, IsMeshFault, IsLogText, IsLogFault}
 
 -- an accepted geometry is refused only for want of memory
 pub excluded : (raw : RawGeometry) → IsAccepted raw → (r : GeomRefusal) → r ≢ Memory → ¬ IsRefusal raw r
@@ -51,3 +57,15 @@ rules_once bytes rules other first second = one_value (rule_words_of bytes) rule
 -- and one fault
 pub rules_fault_once : (bytes : List ℕ) (f g : RuleRefusal) → IsRulesFault bytes f → IsRulesFault bytes g → f ≡ g
 rules_fault_once bytes f g first second = one_rules_refusal (rule_words_of bytes) f g first.named second.named first.refused second.refused
+
+-- a mesh's text has one fault
+pub mesh_fault_once : (shift : ℤ) (bytes : List ℕ) (f g : VolRefusal) → IsMeshFault shift bytes f → IsMeshFault shift bytes g → f ≡ g
+mesh_fault_once shift bytes f g first second = one_mesh_refusal shift (words_of bytes) f g first.named second.named first.refused second.refused
+
+-- a text writes one log
+pub log_once : (bytes : List ℕ) (log other : Log) → IsLogText bytes log → IsLogText bytes other → log ≡ other
+log_once bytes log other first second = one_log (words_of bytes) log other first second
+
+-- and has one fault
+pub log_fault_once : (bytes : List ℕ) (f g : LogRefusal) → IsLogFault bytes f → IsLogFault bytes g → f ≡ g
+log_fault_once bytes f g first second = one_log_refusal (words_of bytes) f g first.refused second.refused

@@ -8,21 +8,18 @@ use Rattle.folder_io.specs.States.{FolderState}
 use Rattle.folder_io.proofs.Counts.{rose_from_earlier}
 use Rattle.netmesh_cli.specs.declared.words_fault.WordsFault.{WordsFault}
 use Rattle.netmesh_cli.specs.declared.outcome.Refusal.{Refusal}
-use Rattle.netmesh_cli.specs.declared.outcome.Refusal.TheVariants.{Words, In2d, Geometry, Rules, Folder, Out, Memory, NotYet}
+use Rattle.netmesh_cli.specs.declared.outcome.Refusal.TheVariants.{Words, In2d, Geometry, Rules, Vol, Log, Folder, Out, Memory, NotYet}
 use Rattle.netmesh_cli.specs.Causes.{HoldsWithin, FolderFault, call_failed, too_long, missing, FetchRefused, HasFailed}
 use Rattle.netmesh_cli.specs.Kinds.{limit_of, Rejects, CanReject}
 use Rattle.netmesh_cli.specs.Taking.{Taken, HoldsAccepted, HoldsRejected, FileRefused, AreAccepted, FirstRefused, TakeRefused, TakesRefused, names_taken}
 use Rattle.netmesh_cli.specs.BytesRefused.{MayRefuse}
 use Rattle.netmesh_cli.specs.Served.{IsListed}
 use Rattle.netmesh_cli.specs.Top.{IsFailureOrMemory}
-use Rattle.netmesh_cli.proofs.Accepting.{accepted_unrejected, one_rejection, can_reject, no_words_there, no_out_there, no_folder_there, no_first_there}
-use Rattle.netmesh_cli.proofs.Tolds.{told_weaker, at_told}
+use Rattle.netmesh_cli.proofs.Accepting.{held_once, accepted_unrejected, one_rejection, no_words_there, no_out_there, no_folder_there, no_first_there}
+use Rattle.netmesh_cli.proofs.Rejecting.{MayReject}
+use Rattle.netmesh_cli.proofs.Tolds.{told_both, at_told}
 
 -- ---- one file
-
--- under one name one file is held
-held_once : (files : Files) (name first second : List ℕ) → Holds files name first → Holds files name second → first ≡ second
-held_once files name first second one other = let e = sym one ∙ other in cc
 
 not_longer : (limit : ℕ) (files : Files) (name bytes : List ℕ) → HoldsWithin limit files name bytes → ¬ IsLonger limit name files
 not_longer limit files name bytes holds long =
@@ -37,8 +34,8 @@ longer_and_missing : (limit : ℕ) (files : Files) (name : List ℕ) → IsLonge
 longer_and_missing limit files name long none = subst (λ (o : Option (List ℕ)). MatchOption o ⊥ (λ (b : List ℕ). limit < length b)) none long
 
 unrejected : (files : Files) (file : Taken) (r : Refusal) → HoldsAccepted files file → ¬ HoldsRejected files r file
-unrejected files file r ok bad = accepted_unrejected file.kind ok.bytes r ok.accepted
-    (subst (λ (b : List ℕ). Rejects file.kind b r) (held_once files file.name bad.bytes ok.bytes bad.holds.held ok.holds.held) bad.rejected)
+unrejected files file r ok bad = accepted_unrejected files file.kind ok.bytes r ok.accepted
+    (subst (λ (b : List ℕ). Rejects files file.kind b r) (held_once files file.name bad.bytes ok.bytes bad.holds.held ok.holds.held) bad.rejected)
 
 -- the folder has it too long, or not at all
 record IsAbsent (files : Files) (file : Taken) (r : Refusal) : Type 0 where
@@ -54,6 +51,8 @@ file_split files file (Words fault) refused = inr refused
 file_split files file (In2d fault) refused = inr refused
 file_split files file (Geometry fault) refused = inr refused
 file_split files file (Rules fault) refused = inr refused
+file_split files file (Vol fault) refused = inr refused
+file_split files file (Log fault) refused = inr refused
 file_split files file (Folder name number) refused = inl (record { number = number; is = ap (λ (n : List ℕ). Folder n number) refused.0; why = refused.1 })
 file_split files file Out refused = inr refused
 file_split files file Memory refused = inr refused
@@ -81,8 +80,8 @@ one_split : (files : Files) (file : Taken) (r s : Refusal) → FileSplit files f
 one_split files file r s (inl first) (inl second) = one_absence files file r s first second
 one_split files file r s (inl first) (inr second) = absurd (absent_unheld files file r second.bytes second.holds first)
 one_split files file r s (inr first) (inl second) = absurd (absent_unheld files file s first.bytes first.holds second)
-one_split files file r s (inr first) (inr second) = one_rejection file.kind second.bytes r s
-    (subst (λ (b : List ℕ). Rejects file.kind b r) (held_once files file.name first.bytes second.bytes first.holds.held second.holds.held) first.rejected) second.rejected
+one_split files file r s (inr first) (inr second) = one_rejection files file.kind second.bytes r s
+    (subst (λ (b : List ℕ). Rejects files file.kind b r) (held_once files file.name first.bytes second.bytes first.holds.held second.holds.held) first.rejected) second.rejected
 
 -- ---- the first of several
 
@@ -106,26 +105,30 @@ take_of_fetch before now (Words fault) file refused = absurd refused
 take_of_fetch before now (In2d fault) file refused = absurd refused
 take_of_fetch before now (Geometry fault) file refused = absurd refused
 take_of_fetch before now (Rules fault) file refused = absurd refused
+take_of_fetch before now (Vol fault) file refused = absurd refused
+take_of_fetch before now (Log fault) file refused = absurd refused
 take_of_fetch before now (Folder name number) file refused = refused
 take_of_fetch before now Out file refused = absurd refused
 take_of_fetch before now Memory file refused = tt
 take_of_fetch before now (NotYet part) file refused = absurd refused
 
-rejected_at : (held : Option Files) (r : Refusal) (file : Taken) (bytes : List ℕ) → Told held (λ files. HoldsWithin (limit_of file.kind) files file.name bytes) → Rejects file.kind bytes r → CanReject file.kind r × Told held (λ files. HoldsRejected files r file)
-rejected_at held r file bytes told rejects = (can_reject file.kind bytes r rejects, told_weaker held _ _ (λ files holds. record { bytes = bytes; holds = holds; rejected = rejects }) told)
+rejected_at : (held : Option Files) (r : Refusal) (file : Taken) (bytes : List ℕ) → Told held (λ files. HoldsWithin (limit_of file.kind) files file.name bytes) → CanReject file.kind r → Told held (λ files. Rejects files file.kind bytes r) → CanReject file.kind r × Told held (λ files. HoldsRejected files r file)
+rejected_at held r file bytes told can rejects = (can, told_both held _ _ _ (λ files holds rejected. record { bytes = bytes; holds = holds; rejected = rejected }) told rejects)
 
-pub take_of_bytes : (before now : FolderState) (r : Refusal) (file : Taken) (taken bytes : List ℕ) → bytes ≡ taken → Told before.held (λ files. HoldsWithin (limit_of file.kind) files file.name taken) → MayRefuse (Rejects file.kind bytes) r → TakeRefused before now r file
-take_of_bytes before now r file taken bytes same told may = go r (subst (λ (b : List ℕ). MayRefuse (Rejects file.kind b) r) same may)
+pub take_of_bytes : (before now : FolderState) (r : Refusal) (file : Taken) (taken bytes : List ℕ) → bytes ≡ taken → Told before.held (λ files. HoldsWithin (limit_of file.kind) files file.name taken) → MayReject before.held file.kind bytes r → TakeRefused before now r file
+take_of_bytes before now r file taken bytes same told may = let at = subst (λ (b : List ℕ). MayReject before.held file.kind b r) same may in go r at.can at.rejects
   where
-    go : (r : Refusal) → MayRefuse (Rejects file.kind taken) r → TakeRefused before now r file
-    go (Words fault) rejects = rejected_at before.held (Words fault) file taken told rejects
-    go (In2d fault) rejects = rejected_at before.held (In2d fault) file taken told rejects
-    go (Geometry fault) rejects = rejected_at before.held (Geometry fault) file taken told rejects
-    go (Rules fault) rejects = rejected_at before.held (Rules fault) file taken told rejects
-    go (Folder name number) rejects = absurd (no_folder_there file.kind name number (can_reject file.kind taken (Folder name number) rejects))
-    go Out rejects = rejected_at before.held Out file taken told rejects
-    go Memory rejects = tt
-    go (NotYet part) rejects = rejected_at before.held (NotYet part) file taken told rejects
+    go : (r : Refusal) → MayRefuse (CanReject file.kind) r → Told before.held (λ files. MayRefuse (Rejects files file.kind taken) r) → TakeRefused before now r file
+    go (Words fault) can rejects = rejected_at before.held (Words fault) file taken told can rejects
+    go (In2d fault) can rejects = rejected_at before.held (In2d fault) file taken told can rejects
+    go (Geometry fault) can rejects = rejected_at before.held (Geometry fault) file taken told can rejects
+    go (Rules fault) can rejects = rejected_at before.held (Rules fault) file taken told can rejects
+    go (Vol fault) can rejects = rejected_at before.held (Vol fault) file taken told can rejects
+    go (Log fault) can rejects = rejected_at before.held (Log fault) file taken told can rejects
+    go (Folder name number) can rejects = absurd (no_folder_there file.kind name number can)
+    go Out can rejects = rejected_at before.held Out file taken told can rejects
+    go Memory can rejects = tt
+    go (NotYet part) can rejects = rejected_at before.held (NotYet part) file taken told can rejects
 
 -- a take after calls of the folder that left what it holds
 fault_since : (limit : ℕ) (name : List ℕ) (s0 s1 s2 : FolderState) → s1.held ≡ s0.held → s0.faults ≤ s1.faults → (number : ℕ) → FolderFault limit name s1 s2 number → FolderFault limit name s0 s2 number
@@ -141,6 +144,8 @@ take_since s0 s1 s2 (Words fault) file same kept refused = bytes_since (Words fa
 take_since s0 s1 s2 (In2d fault) file same kept refused = bytes_since (In2d fault) file s0 s1 same refused
 take_since s0 s1 s2 (Geometry fault) file same kept refused = bytes_since (Geometry fault) file s0 s1 same refused
 take_since s0 s1 s2 (Rules fault) file same kept refused = bytes_since (Rules fault) file s0 s1 same refused
+take_since s0 s1 s2 (Vol fault) file same kept refused = bytes_since (Vol fault) file s0 s1 same refused
+take_since s0 s1 s2 (Log fault) file same kept refused = bytes_since (Log fault) file s0 s1 same refused
 take_since s0 s1 s2 (Folder name number) file same kept refused = (refused.0, fault_since (limit_of file.kind) file.name s0 s1 s2 same kept number refused.1)
 take_since s0 s1 s2 Out file same kept refused = bytes_since Out file s0 s1 same refused
 take_since s0 s1 s2 Memory file same kept refused = tt
@@ -161,6 +166,8 @@ take_told before now files (Words fault) file e refused = inl (bytes_told before
 take_told before now files (In2d fault) file e refused = inl (bytes_told before files (In2d fault) file e refused)
 take_told before now files (Geometry fault) file e refused = inl (bytes_told before files (Geometry fault) file e refused)
 take_told before now files (Rules fault) file e refused = inl (bytes_told before files (Rules fault) file e refused)
+take_told before now files (Vol fault) file e refused = inl (bytes_told before files (Vol fault) file e refused)
+take_told before now files (Log fault) file e refused = inl (bytes_told before files (Log fault) file e refused)
 take_told before now files (Folder name number) file e refused = fault_told before now files file name e refused.0 number refused.1
 take_told before now files Out file e refused = inl (bytes_told before files Out file e refused)
 take_told before now files Memory file e refused = inr tt

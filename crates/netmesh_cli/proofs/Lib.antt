@@ -15,8 +15,10 @@ pub mod Refusals
 pub mod Readable
 pub mod Excluded
 pub mod Accepting
+pub mod Rejecting
 pub mod Firsts
 pub mod States
+pub mod Meshes
 -- what is made: areas, comments, and the run of a geometry
 pub mod Sweeps
 pub mod Comments

@@ -1,6 +1,6 @@
 -- What the verbs make of the files that they take, and why they make nothing: one section for a verb.
-use Rattle.std.proofs.Common.{◌≡◌, inl, inr, ℕ, ◌≤◌, List, [], ◌∷◌, sym, subst, ap, ◌∙◌}
-use Rattle.std.specs.Prelude.{Option}
+use Rattle.std.proofs.Common.{◌≡◌, inl, inr, ℕ, ◌≤◌, List, [], ◌∷◌, length, sym, subst, ap, ◌∙◌}
+use Rattle.std.specs.Prelude.{Option, ℤ}
 use Rattle.folder_io.specs.Causes.{Told}
 use Rattle.folder_io.specs.Names.{Files}
 use Rattle.folder_io.specs.States.{FolderState}
@@ -8,13 +8,19 @@ use Rattle.in2d_reader.specs.declared.geometry.RawGeometry.{RawGeometry}
 use Rattle.rule_reader.specs.declared.rule.Rule.{Rule}
 use Rattle.geom_check.specs.Geometry.{PlanarMap}
 use Rattle.mesh_run.specs.declared.WholeRun.{WholeRun}
+use Rattle.vol_format.specs.declared.Mesh.{Mesh}
+use Rattle.mesh_check.specs.declared.verdict.Verdict.{Verdict}
+use Rattle.mesh_check.specs.Verdict.{IsVerdict}
 use Rattle.netmesh_cli.specs.declared.outcome.Refusal.{Refusal}
-use Rattle.netmesh_cli.specs.declared.outcome.Refusal.TheVariants.{Words, In2d, Geometry, Rules, Folder, Out, Memory, NotYet}
+use Rattle.netmesh_cli.specs.declared.outcome.Refusal.TheVariants.{Words, In2d, Geometry, Rules, Vol, Log, Folder, Out, Memory, NotYet}
 use Rattle.netmesh_cli.specs.Commands.{MeshTask}
-use Rattle.netmesh_cli.specs.Causes.{IsMemory}
-use Rattle.netmesh_cli.specs.Taking.{HoldsAccepted, TakeRefused, geometry_at, rule_file_at}
+use Rattle.netmesh_cli.specs.Accepted.{IsMeshText}
+use Rattle.netmesh_cli.specs.Causes.{IsMemory, HoldsWithin}
+use Rattle.netmesh_cli.specs.Taking.{HoldsAccepted, TakeRefused, geometry_at, rule_file_at, mesh_at, state_log_at}
 use Rattle.netmesh_cli.specs.Run.{MeshInput, IsRunOf, log_of, mesh_of, line_of, outcome_of, IsExactRun}
-use Rattle.netmesh_cli.specs.Jobs.{Job, MeshJob, GeomJob, RulesJob, Made, IsMeshed, HoldsGeometry, HoldsRules}
+use Rattle.netmesh_cli.specs.Held.{HoldsGeometry, HoldsRules, HoldsVol}
+use Rattle.netmesh_cli.specs.Judged.{verdict_line, judged}
+use Rattle.netmesh_cli.specs.Jobs.{Job, MeshJob, GeomJob, RulesJob, CheckJob, ViewJob, Made, IsMeshed, IsChecked}
 use Rattle.netmesh_cli.specs.Served.{MakeRefused}
 use Rattle.netmesh_cli.proofs.Tolds.{told_weaker, told_both}
 use Rattle.netmesh_cli.proofs.Firsts.{take_since}
@@ -26,6 +32,8 @@ memory_makes job s0 s1 (Words fault) memory = absurd memory
 memory_makes job s0 s1 (In2d fault) memory = absurd memory
 memory_makes job s0 s1 (Geometry fault) memory = absurd memory
 memory_makes job s0 s1 (Rules fault) memory = absurd memory
+memory_makes job s0 s1 (Vol fault) memory = absurd memory
+memory_makes job s0 s1 (Log fault) memory = absurd memory
 memory_makes job s0 s1 (Folder name number) memory = absurd memory
 memory_makes job s0 s1 Out memory = absurd memory
 memory_makes job s0 s1 Memory memory = tt
@@ -41,10 +49,43 @@ geom_refused name s0 s1 r refused = make_refused (GeomJob name) s0 s1 r (inl ref
 pub rules_refused : (name : List ℕ) (s0 s1 : FolderState) (r : Refusal) → TakeRefused s0 s1 r (rule_file_at name) → MakeRefused (RulesJob name) s0 s1 r
 rules_refused name s0 s1 r refused = make_refused (RulesJob name) s0 s1 r (inl refused)
 
--- ---- mesh
+-- ---- view
+
+pub view_refused : (log : List ℕ) (domain step : ℕ) (s0 s1 : FolderState) (r : Refusal) → TakeRefused s0 s1 r (state_log_at domain step log) → MakeRefused (ViewJob log domain step) s0 s1 r
+view_refused log domain step s0 s1 r refused = make_refused (ViewJob log domain step) s0 s1 r (inl refused)
+
+-- ---- a geometry, and another file behind it
 
 geometry_accepted : (held : Option Files) (name : List ℕ) (raw : RawGeometry) (g : PlanarMap) → Told held (λ files. HoldsGeometry files name raw g) → Told held (λ files. HoldsAccepted files (geometry_at name))
 geometry_accepted held name raw g told = told_weaker held _ _ (λ files h. record { bytes = h.bytes; holds = h.holds; accepted = record { raw = raw; geometry = g; written = h.written } }) told
+
+-- ---- check
+
+pub check_at_geometry : (geometry mesh : List ℕ) (s0 s1 : FolderState) (r : Refusal) → TakeRefused s0 s1 r (geometry_at geometry) → MakeRefused (CheckJob geometry mesh) s0 s1 r
+check_at_geometry geometry mesh s0 s1 r refused = make_refused (CheckJob geometry mesh) s0 s1 r (inl refused)
+
+pub check_at_mesh : (geometry mesh : List ℕ) (s0 s1 s2 : FolderState) (raw : RawGeometry) (g : PlanarMap) (r : Refusal) → s1.held ≡ s0.held → s0.faults ≤ s1.faults → Told s0.held (λ files. HoldsGeometry files geometry raw g) → TakeRefused s1 s2 r (mesh_at geometry mesh) → MakeRefused (CheckJob geometry mesh) s0 s2 r
+check_at_mesh geometry mesh s0 s1 s2 raw g r same kept holds refused = make_refused (CheckJob geometry mesh) s0 s2 r (inr (geometry_accepted s0.held geometry raw g holds, inl (take_since s0 s1 s2 r (mesh_at geometry mesh) same kept refused)))
+
+-- the geometry and the mesh that are held, the verdict on them, and what is made of it
+pub record IsMadeOfVerdict (held : Option Files) (geometry mesh : List ℕ) (raw : RawGeometry) (g : PlanarMap) (m : Mesh) (verdict : Verdict) (made : Made) : Type 0 where
+  pub geometry_held : Told held (λ files. HoldsGeometry files geometry raw g)
+  pub mesh_held : Told held (λ files. HoldsVol files mesh g.shift m)
+  pub is_verdict : IsVerdict g m verdict
+  pub puts : made.puts ≡ []
+  pub answer : made.answer ≡ verdict_line (length m.elements) verdict
+  pub outcome : made.outcome ≡ judged verdict
+
+pub check_made : (held : Option Files) (geometry mesh : List ℕ) (raw : RawGeometry) (g : PlanarMap) (m : Mesh) (verdict : Verdict) (made : Made) → IsMadeOfVerdict held geometry mesh raw g m verdict made → Told held (λ files. IsChecked geometry mesh files made)
+check_made held geometry mesh raw g m verdict made of = told_both held _ _ (λ files. IsChecked geometry mesh files made)
+    (λ files h k. record { raw = raw; grid = g; held = h; read = m; mesh_held = k; verdict = verdict; is_verdict = of.is_verdict; puts = of.puts; answer = of.answer; outcome = of.outcome })
+    of.geometry_held of.mesh_held
+
+-- the bytes of a mesh that were taken are those that were read
+pub vol_held : (held : Option Files) (mesh taken bytes : List ℕ) (shift : ℤ) (m : Mesh) → bytes ≡ taken → Told held (λ files. HoldsWithin 268435456 files mesh taken) → IsMeshText shift bytes m → Told held (λ files. HoldsVol files mesh shift m)
+vol_held held mesh taken bytes shift m same told text = told_weaker held _ _ (λ files h. record { bytes = taken; holds = h; written = subst (λ (b : List ℕ). IsMeshText shift b m) same text }) told
+
+-- ---- mesh
 
 pub mesh_at_geometry : (task : MeshTask) (s0 s1 : FolderState) (r : Refusal) → TakeRefused s0 s1 r (geometry_at task.geometry) → MakeRefused (MeshJob task) s0 s1 r
 mesh_at_geometry task s0 s1 r refused = make_refused (MeshJob task) s0 s1 r (inl refused)

@@ -8,7 +8,7 @@ use Rattle.folder_io.specs.States.{FolderState}
 use Rattle.folder_io.proofs.Counts.{rose_from_earlier}
 use Rattle.folder_io.proofs.Tables.{held_inserted, same_but_inserted}
 use Rattle.netmesh_cli.specs.declared.outcome.Refusal.{Refusal}
-use Rattle.netmesh_cli.specs.declared.outcome.Refusal.TheVariants.{Words, In2d, Geometry, Rules, Folder, Out, Memory, NotYet}
+use Rattle.netmesh_cli.specs.declared.outcome.Refusal.TheVariants.{Words, In2d, Geometry, Rules, Vol, Log, Folder, Out, Memory, NotYet}
 use Rattle.netmesh_cli.specs.Causes.{PutRefused}
 use Rattle.netmesh_cli.specs.declared.made.Put.{Put as PutValue}
 use Rattle.netmesh_cli.specs.Jobs.{Put, put_of, names_of_puts}
@@ -23,6 +23,8 @@ put_since name s0 s1 s2 (Words fault) kept refused = refused
 put_since name s0 s1 s2 (In2d fault) kept refused = refused
 put_since name s0 s1 s2 (Geometry fault) kept refused = refused
 put_since name s0 s1 s2 (Rules fault) kept refused = refused
+put_since name s0 s1 s2 (Vol fault) kept refused = refused
+put_since name s0 s1 s2 (Log fault) kept refused = refused
 put_since name s0 s1 s2 (Folder named number) kept refused = (refused.0, refused.1, (rose_from_earlier s0.faults s1.faults s2.faults kept refused.2.0, refused.2.1))
 put_since name s0 s1 s2 Out kept refused = refused
 put_since name s0 s1 s2 Memory kept refused = refused

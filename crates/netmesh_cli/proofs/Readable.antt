@@ -19,7 +19,7 @@ use Rattle.in2d_reader.specs.Normal.{IsDec, IsPointRow, IsSegmentRow, IsMaterial
 use Rattle.geom_check.specs.Placed.{IsReadable, IsReadableNumber, IsReadablePoint, IsReadableSegment, IsReadableMaterial, IsReadableIfAny}
 use Rattle.word_scan.specs.Numerals.{whole_of, value_of, is_whole}
 use Rattle.netmesh_cli.specs.CommandLine.{Given}
-use Rattle.netmesh_cli.specs.Commands.{IsSize, IsWholeFrom, HasValue, AreOptions, IsCommand, task_of}
+use Rattle.netmesh_cli.specs.Commands.{ViewOf, IsSize, IsWholeFrom, HasValue, AreOptions, IsCommand, task_of}
 use Rattle.netmesh_cli.specs.Jobs.{AreInRange}
 use Rattle.netmesh_cli.specs.declared.command.MeshOptions.{MeshOptions}
 use Rattle.netmesh_cli.specs.declared.command.MeshCall.{MeshCall}
@@ -112,3 +112,7 @@ options_in_range given options are = record {
 
 pub call_in_range : (words : List (List ℕ)) (call : MeshCall) → IsCommand words (task_of (commands.Mesh call)) → AreInRange call.options
 call_in_range words call command = options_in_range command.3.1.1 call.options command.3.1.3.1
+
+-- the domain that is viewed is at most 64
+pub view_in_range : (words : List (List ℕ)) (log : List ℕ) (domain step : ℕ) → IsCommand words (ViewOf log domain step) → domain ≤ 64
+view_in_range words log domain step command = let stands = command.3.1.3 in let is : IsWholeFrom 1 64 stands.0 domain = stands.3 in not_above (is_whole stands.0) (nat_le (value_of stands.0) 64) (value_of stands.0) 64 domain refl is.written

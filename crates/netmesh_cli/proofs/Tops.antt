@@ -8,10 +8,10 @@ use Rattle.folder_io.proofs.Counts.{rose_from_earlier, rose_until_later}
 use Rattle.netmesh_cli.specs.declared.outcome.Outcome.{Outcome}
 use Rattle.netmesh_cli.specs.declared.outcome.Outcome.TheVariants.{Done, Stuck, Stopped, Good, Bad, Shown, Refused}
 use Rattle.netmesh_cli.specs.declared.outcome.Refusal.{Refusal}
-use Rattle.netmesh_cli.specs.declared.outcome.Refusal.TheVariants.{Words, In2d, Geometry, Rules, Folder, Out, Memory, NotYet}
+use Rattle.netmesh_cli.specs.declared.outcome.Refusal.TheVariants.{Words, In2d, Geometry, Rules, Vol, Log, Folder, Out, Memory, NotYet}
 use Rattle.netmesh_cli.specs.Commands.{MeshTask}
 use Rattle.netmesh_cli.specs.Causes.{IsUntaken}
-use Rattle.netmesh_cli.specs.Jobs.{Job, MeshJob, GeomJob, RulesJob, puts_of, EndsSo, Put}
+use Rattle.netmesh_cli.specs.Jobs.{Job, MeshJob, GeomJob, RulesJob, CheckJob, ViewJob, puts_of, EndsSo, Put}
 use Rattle.netmesh_cli.specs.Served.{AreApart, put_all, IsServed, IsAnswer, HasAll, WrittenBefore, Course, RefusalCause, RefusalStands, Keeps}
 use Rattle.netmesh_cli.specs.Lines.{refusal_line}
 use Rattle.netmesh_cli.specs.Top.{IfServed, IfRefused, IsRefusedAnd, IsServedOr, WritesOrFails, WritesLine, HasLine, Telling, no_line, line_told, no_memory, Answers, HoldsMesh}
@@ -32,6 +32,8 @@ unwritten_before IsAnswer w0 w1 (Words fault) has written = written
 unwritten_before IsAnswer w0 w1 (In2d fault) has written = written
 unwritten_before IsAnswer w0 w1 (Geometry fault) has written = written
 unwritten_before IsAnswer w0 w1 (Rules fault) has written = written
+unwritten_before IsAnswer w0 w1 (Vol fault) has written = written
+unwritten_before IsAnswer w0 w1 (Log fault) has written = written
 unwritten_before IsAnswer w0 w1 (Folder name number) has written = written
 unwritten_before IsAnswer w0 w1 Out has written = absurd has
 unwritten_before IsAnswer w0 w1 Memory has written = absurd has
@@ -42,6 +44,8 @@ writes_line o0 o1 (Words fault) has told = told
 writes_line o0 o1 (In2d fault) has told = told
 writes_line o0 o1 (Geometry fault) has told = told
 writes_line o0 o1 (Rules fault) has told = told
+writes_line o0 o1 (Vol fault) has told = told
+writes_line o0 o1 (Log fault) has told = told
 writes_line o0 o1 (Folder name number) has told = told
 writes_line o0 o1 Out has told = absurd has
 writes_line o0 o1 Memory has told = absurd has
@@ -52,6 +56,8 @@ writes_none IsAnswer o0 o1 o2 (Words fault) written none kept = absurd (none tt)
 writes_none IsAnswer o0 o1 o2 (In2d fault) written none kept = absurd (none tt)
 writes_none IsAnswer o0 o1 o2 (Geometry fault) written none kept = absurd (none tt)
 writes_none IsAnswer o0 o1 o2 (Rules fault) written none kept = absurd (none tt)
+writes_none IsAnswer o0 o1 o2 (Vol fault) written none kept = absurd (none tt)
+writes_none IsAnswer o0 o1 o2 (Log fault) written none kept = absurd (none tt)
 writes_none IsAnswer o0 o1 o2 (Folder name number) written none kept = absurd (none tt)
 writes_none IsAnswer o0 o1 o2 Out written none kept = tt
 writes_none IsAnswer o0 o1 o2 Memory written none kept = kept ∙ written
@@ -91,6 +97,8 @@ cause_later job s0 s1 o0 o1 o2 (Words fault) later cause = cause
 cause_later job s0 s1 o0 o1 o2 (In2d fault) later cause = cause
 cause_later job s0 s1 o0 o1 o2 (Geometry fault) later cause = cause
 cause_later job s0 s1 o0 o1 o2 (Rules fault) later cause = cause
+cause_later job s0 s1 o0 o1 o2 (Vol fault) later cause = cause
+cause_later job s0 s1 o0 o1 o2 (Log fault) later cause = cause
 cause_later job s0 s1 o0 o1 o2 (Folder name number) later cause = cause
 cause_later job s0 s1 o0 o1 o2 Out later cause = (cause.0, rose_until_later o0.faults o1.faults o2.faults cause.1 later)
 cause_later job s0 s1 o0 o1 o2 Memory later cause = cause
@@ -119,6 +127,8 @@ never_refused : (job : Job) (r : Refusal) → ¬ EndsSo job (Refused r)
 never_refused (MeshJob task) r ends = ends
 never_refused (GeomJob geometry) r ends = ends
 never_refused (RulesJob rules) r ends = ends
+never_refused (CheckJob geometry mesh) r ends = ends
+never_refused (ViewJob log domain step) r ends = ends
 
 if_served : (outcome : Outcome) (P : Outcome → Type 0) → P outcome → IfServed outcome P
 if_served Done P fact = fact

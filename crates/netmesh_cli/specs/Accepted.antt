@@ -1,4 +1,4 @@
--- Which bytes are the text of an accepted geometry, and which are a rule file.
+-- Which bytes are the text of an accepted geometry, which are a rule file, a mesh, or a log.
 --
 -- IsText            the bytes are the text of a geometry
 -- IsGeometryText    it is accepted, and this is it on the grid
@@ -7,7 +7,14 @@
 -- HasGeometry       they are the text of an accepted geometry
 -- AreRules          the bytes are a rule file with these rules
 -- IsRulesFault      why they are no rule file
-use Rattle.std.specs.Prelude.{◌≢◌, ℕ, List}
+-- IsMeshText        the bytes are the text of a mesh at a shift
+-- IsMeshFault       why they are the text of none
+-- IsLogText         the bytes are the text of a log
+-- IsLogFault        why they are the text of none
+-- IsState           this is the state after a step of a domain's run
+-- HasState          there is such a state
+-- IsStateFault      why there is none
+use Rattle.std.specs.Prelude.{◌≡◌, ◌≢◌, ◌⊎◌, ℕ, List, ℤ}
 use Rattle.word_scan.specs.Scan.{words_of}
 use Rattle.in2d_reader.specs.declared.geometry.RawGeometry.{RawGeometry}
 use Rattle.in2d_reader.specs.declared.refusal.In2dRefusal.{In2dRefusal}
@@ -24,6 +31,17 @@ use Rattle.geom_check.specs.declared.refusal.GeomRefusal.{GeomRefusal}
 use Rattle.geom_check.specs.declared.refusal.GeomRefusal.TheVariants.{Memory as NoMemoryToCheck}
 use Rattle.geom_check.specs.Refused.{IsRefusal}
 use Rattle.geom_check.specs.Geometry.{PlanarMap, IsGeometryOf}
+use Rattle.vol_format.specs.declared.Mesh.{Mesh}
+use Rattle.vol_format.specs.declared.refusal.VolRefusal.{VolRefusal}
+use Rattle.vol_format.specs.declared.refusal.VolRefusal.TheVariants.{Memory as NoMemoryForMesh}
+use Rattle.vol_format.specs.Text.{Derives as DerivesMesh, Known}
+use Rattle.vol_format.specs.Refusals.{Refuses as RefusesMesh}
+use Rattle.run_log.specs.declared.log.Log.{Log}
+use Rattle.run_log.specs.declared.state.View.{View}
+use Rattle.run_log.specs.declared.refusal.LogRefusal.{LogRefusal}
+use Rattle.run_log.specs.declared.refusal.LogRefusal.TheVariants.{NoState}
+use Rattle.run_log.specs.Grammar.{Reads, Refuses as RefusesLog}
+use Rattle.run_log.specs.View.{Shows, HasNoState}
 
 -- ---- texts of geometries
 
@@ -72,3 +90,50 @@ pub record IsRulesFault (bytes : List ℕ) (fault : RuleRefusal) : Type 0 where
   pub named : fault ≢ NoMemoryForRules
   pub refused : RefusesRuleWords (rule_words_of bytes) fault
   pub none : (rules : List Rule) → ¬ AreRules bytes rules
+
+-- ---- meshes
+
+-- the bytes are the text of this mesh at the shift: the grammar derives it, and its point numbers name its points
+pub record IsMeshText (shift : ℤ) (bytes : List ℕ) (mesh : Mesh) : Type 0 where
+  pub derived : DerivesMesh shift (words_of bytes) mesh
+  pub known : Known mesh
+
+-- the bytes are the text of no mesh at the shift, and this is the fault
+pub record IsMeshFault (shift : ℤ) (bytes : List ℕ) (fault : VolRefusal) : Type 0 where
+  pub named : fault ≢ NoMemoryForMesh
+  pub refused : RefusesMesh shift (words_of bytes) fault
+  pub none : (mesh : Mesh) → ¬ IsMeshText shift bytes mesh
+
+-- ---- logs
+
+-- the bytes are the text of this log
+abbrev pub IsLogText : List ℕ → Log → Type 0
+IsLogText bytes log = Reads (words_of bytes) log
+
+-- the bytes are the text of no log, and this is the fault
+pub record IsLogFault (bytes : List ℕ) (fault : LogRefusal) : Type 0 where
+  pub refused : RefusesLog (words_of bytes) fault
+  pub none : (log : Log) → ¬ IsLogText bytes log
+
+-- the bytes are the text of a log, and this is the state after this step of this domain's run
+pub record IsState (domain step : ℕ) (bytes : List ℕ) (view : View) : Type 0 where
+  pub log : Log
+  pub written : IsLogText bytes log
+  pub shown : Shows log domain step view
+
+-- they are the text of a log with such a state
+pub record HasState (domain step : ℕ) (bytes : List ℕ) : Type 0 where
+  pub view : View
+  pub is : IsState domain step bytes view
+
+-- the bytes are the text of a log without this domain, or without this step of its run
+pub record LacksState (domain step : ℕ) (bytes : List ℕ) : Type 0 where
+  pub log : Log
+  pub written : IsLogText bytes log
+  pub lacks : HasNoState log domain step
+  pub none : (view : View) → ¬ Shows log domain step view
+
+-- the bytes are the text of no log, or of one that lacks the state; and this is the fault
+abbrev pub IsStateFault : ℕ → ℕ → List ℕ → LogRefusal → Type 0
+IsStateFault domain step bytes fault = IsLogFault bytes fault
+    ⊎ ((fault ≡ NoState domain step) × LacksState domain step bytes)

@@ -7,28 +7,33 @@
 -- EndsSo        the outcomes that it may have, where it isn't refused
 -- Made          what is made: the files to be put, the answer, and the outcome
 -- Makes         this is made of the files that are held
-use Rattle.std.specs.Prelude.{◌≡◌, ℕ, ◌≤◌, List, [], ◌∷◌, map, IfSome}
+use Rattle.std.specs.Prelude.{◌≡◌, ℕ, ◌≤◌, List, [], ◌∷◌, length, map, IfSome}
 use Rattle.folder_io.specs.Names.{Files}
 use Rattle.in2d_reader.specs.declared.geometry.RawGeometry.{RawGeometry}
 use Rattle.rule_reader.specs.declared.rule.Rule.{Rule}
 use Rattle.geom_check.specs.Placed.{IsReadableIfAny}
 use Rattle.geom_check.specs.Geometry.{PlanarMap}
+use Rattle.vol_format.specs.declared.Mesh.{Mesh}
+use Rattle.mesh_check.specs.declared.verdict.Verdict.{Verdict}
+use Rattle.mesh_check.specs.Verdict.{IsVerdict}
 use Rattle.mesh_run.specs.declared.WholeRun.{WholeRun}
+use Rattle.run_log.specs.declared.state.View.{View}
 use Rattle.netmesh_cli.specs.declared.outcome.Outcome.{Outcome}
-use Rattle.netmesh_cli.specs.declared.outcome.Outcome.TheVariants.{Done, Stuck, Stopped, Shown}
+use Rattle.netmesh_cli.specs.declared.outcome.Outcome.TheVariants.{Done, Stuck, Stopped, Good, Bad, Shown}
 use Rattle.netmesh_cli.specs.declared.made.Put.{Put as PutValue}
 use Rattle.netmesh_cli.specs.declared.made.Made.{Made as MadeValue}
 use Rattle.netmesh_cli.specs.declared.command.MeshCall.{MeshCall}
 use Rattle.netmesh_cli.specs.declared.command.MeshOptions.{MeshOptions}
 use Rattle.netmesh_cli.specs.declared.asked.Asked.{Asked}
-use Rattle.netmesh_cli.specs.declared.asked.Asked.TheVariants.{Mesh, Geom, Rules}
-use Rattle.netmesh_cli.specs.Commands.{Task, MeshTask, MeshOf, GeomOf, RulesOf}
-use Rattle.netmesh_cli.specs.Accepted.{IsGeometryText, AreRules}
-use Rattle.netmesh_cli.specs.Causes.{HoldsWithin}
-use Rattle.netmesh_cli.specs.Taking.{Taken, geometry_at, rule_file_at}
+use Rattle.netmesh_cli.specs.declared.asked.Asked.TheVariants.{Mesh as MeshAsked, Geom, Rules, Check, View as ViewAsked}
+use Rattle.netmesh_cli.specs.Commands.{Task, MeshTask, MeshOf, GeomOf, RulesOf, CheckOf, ViewOf}
+use Rattle.netmesh_cli.specs.Held.{HoldsGeometry, HoldsRules, HoldsVol, HoldsState}
+use Rattle.netmesh_cli.specs.Taking.{Taken, geometry_at, rule_file_at, mesh_at, state_log_at}
 use Rattle.netmesh_cli.specs.Run.{MeshInput, IsRunOf, log_of, mesh_of, line_of, outcome_of, IsExactRun}
 use Rattle.netmesh_cli.specs.Shown.{shown_text}
 use Rattle.netmesh_cli.specs.Listed.{IsListing}
+use Rattle.netmesh_cli.specs.Judged.{verdict_line, judged}
+use Rattle.netmesh_cli.specs.Viewed.{view_text}
 
 -- ---- what is asked for
 
@@ -37,12 +42,18 @@ pub data Job : Type 0 where
   MeshJob : MeshTask → Job
   GeomJob : List ℕ → Job
   RulesJob : List ℕ → Job
+  -- the geometry and the mesh
+  CheckJob : List ℕ → List ℕ → Job
+  -- the log, the domain and the step
+  ViewJob : List ℕ → ℕ → ℕ → Job
 
 -- as the words of a call ask for it
 abbrev pub task_of_job : Job → Task
 task_of_job (MeshJob task) = MeshOf task
 task_of_job (GeomJob geometry) = GeomOf geometry
 task_of_job (RulesJob rules) = RulesOf rules
+task_of_job (CheckJob geometry mesh) = CheckOf geometry mesh
+task_of_job (ViewJob log domain step) = ViewOf log domain step
 
 -- as the program reads it off the words
 abbrev pub task_of_mesh : MeshCall → MeshTask
@@ -55,9 +66,11 @@ task_of_mesh call = record {
 }
 
 abbrev pub job_of : Asked → Job
-job_of (Mesh call) = MeshJob (task_of_mesh call)
+job_of (MeshAsked call) = MeshJob (task_of_mesh call)
 job_of (Geom geometry) = GeomJob geometry.now
 job_of (Rules rules) = RulesJob rules.now
+job_of (Check geometry mesh) = CheckJob geometry.now mesh.now
+job_of (ViewAsked log domain step) = ViewJob log.now domain step
 
 -- the options of `mesh` are in the ranges that words may give them
 pub record AreInRange (options : MeshOptions) : Type 0 where
@@ -70,6 +83,8 @@ abbrev pub IsInRange : Job → Type 0
 IsInRange (MeshJob task) = AreInRange task.options
 IsInRange (GeomJob geometry) = Unit {0}
 IsInRange (RulesJob rules) = Unit {0}
+IsInRange (CheckJob geometry mesh) = Unit {0}
+IsInRange (ViewJob log domain step) = domain ≤ 64
 
 -- ---- what is taken and put
 
@@ -77,12 +92,16 @@ abbrev pub takes_of : Job → List Taken
 takes_of (MeshJob task) = geometry_at task.geometry ∷ rule_file_at task.rules ∷ []
 takes_of (GeomJob geometry) = geometry_at geometry ∷ []
 takes_of (RulesJob rules) = rule_file_at rules ∷ []
+takes_of (CheckJob geometry mesh) = geometry_at geometry ∷ mesh_at geometry mesh ∷ []
+takes_of (ViewJob log domain step) = state_log_at domain step log ∷ []
 
 -- the log is put before the mesh
 abbrev pub puts_of : Job → List (List ℕ)
 puts_of (MeshJob task) = task.log ∷ task.mesh ∷ []
 puts_of (GeomJob geometry) = []
 puts_of (RulesJob rules) = []
+puts_of (CheckJob geometry mesh) = []
+puts_of (ViewJob log domain step) = []
 
 abbrev pub IsRunOutcome : Outcome → Type 0
 IsRunOutcome Done = Unit {0}
@@ -94,10 +113,17 @@ abbrev pub IsShown : Outcome → Type 0
 IsShown Shown = Unit {0}
 IsShown _ = ⊥
 
+abbrev pub IsVerdictOutcome : Outcome → Type 0
+IsVerdictOutcome Good = Unit {0}
+IsVerdictOutcome Bad = Unit {0}
+IsVerdictOutcome _ = ⊥
+
 abbrev pub EndsSo : Job → Outcome → Type 0
 EndsSo (MeshJob task) = IsRunOutcome
 EndsSo (GeomJob geometry) = IsShown
 EndsSo (RulesJob rules) = IsShown
+EndsSo (CheckJob geometry mesh) = IsVerdictOutcome
+EndsSo (ViewJob log domain step) = IsShown
 
 -- ---- what is made
 
@@ -125,18 +151,6 @@ made_of made = record {
 
 abbrev pub names_of_puts : List Put → List (List ℕ)
 names_of_puts puts = map (λ put. put.name) puts
-
--- the text of an accepted geometry is held under the name
-pub record HoldsGeometry (files : Files) (name : List ℕ) (raw : RawGeometry) (g : PlanarMap) : Type 0 where
-  pub bytes : List ℕ
-  pub holds : HoldsWithin 1048576 files name bytes
-  pub written : IsGeometryText bytes raw g
-
--- a rule file with these rules is held under the name
-pub record HoldsRules (files : Files) (name : List ℕ) (rules : List Rule) : Type 0 where
-  pub bytes : List ℕ
-  pub holds : HoldsWithin 1048576 files name bytes
-  pub are : AreRules bytes rules
 
 -- `mesh`: the geometry and the rules that are held are accepted; the log and then the mesh of their run are
 -- put, its summary line is written, and the outcome is that of its end
@@ -172,8 +186,32 @@ pub record AreListed (name : List ℕ) (files : Files) (made : Made) : Type 0 wh
   pub answer : IsListing rules made.answer
   pub outcome : made.outcome ≡ Shown
 
+-- `check`: the geometry and the mesh that are held are accepted, this is the verdict on them, and its line is
+-- written; the outcome is Good exactly where the mesh is whole
+pub record IsChecked (geometry mesh : List ℕ) (files : Files) (made : Made) : Type 0 where
+  pub raw : RawGeometry
+  pub grid : PlanarMap
+  pub held : HoldsGeometry files geometry raw grid
+  pub read : Mesh
+  pub mesh_held : HoldsVol files mesh grid.shift read
+  pub verdict : Verdict
+  pub is_verdict : IsVerdict grid read verdict
+  pub puts : made.puts ≡ []
+  pub answer : made.answer ≡ verdict_line (length read.elements) verdict
+  pub outcome : made.outcome ≡ judged verdict
+
+-- `view`: the log that is held is accepted, and its state after this step of this domain's run is written
+pub record IsViewed (name : List ℕ) (domain step : ℕ) (files : Files) (made : Made) : Type 0 where
+  pub view : View
+  pub held : HoldsState files name domain step view
+  pub puts : made.puts ≡ []
+  pub answer : made.answer ≡ view_text domain step view
+  pub outcome : made.outcome ≡ Shown
+
 -- what a verb makes of the files that are held
 abbrev pub Makes : Job → Files → Made → Type 0
 Makes (MeshJob task) files made = IsMeshed task files made
 Makes (GeomJob geometry) files made = IsDrawn geometry files made
 Makes (RulesJob rules) files made = AreListed rules files made
+Makes (CheckJob geometry mesh) files made = IsChecked geometry mesh files made
+Makes (ViewJob log domain step) files made = IsViewed log domain step files made

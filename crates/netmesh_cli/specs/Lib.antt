@@ -13,8 +13,11 @@ pub mod BytesRefused
 pub mod Run
 pub mod Shown
 pub mod Listed
+pub mod Judged
+pub mod Viewed
 -- what is taken and put, verb by verb
 pub mod Causes
+pub mod Held
 pub mod Kinds
 pub mod Taking
 pub mod Jobs

@@ -11,10 +11,14 @@ use Rattle.geom_check.specs.declared.refusal.GeomRefusal.{GeomRefusal}
 use Rattle.geom_check.specs.declared.refusal.GeomRefusal.TheVariants.{NoDomain, TooLarge, SamePlace, SameSides, NoLength, Meet, OpenAt, Side, Overlap, Memory as NoMemoryHere}
 use Rattle.rule_reader.specs.declared.fault.RuleRefusal.{RuleRefusal}
 use Rattle.rule_reader.specs.declared.fault.RuleRefusal.TheVariants as fault_of_rules
+use Rattle.vol_format.specs.declared.refusal.VolRefusal.{VolRefusal}
+use Rattle.vol_format.specs.declared.refusal.VolRefusal.TheVariants as fault_of_mesh
+use Rattle.run_log.specs.declared.refusal.LogRefusal.{LogRefusal}
+use Rattle.run_log.specs.declared.refusal.LogRefusal.TheVariants as fault_of_log
 use Rattle.netmesh_cli.specs.declared.words_fault.WordsFault.{WordsFault}
 use Rattle.netmesh_cli.specs.declared.words_fault.WordsFault.TheVariants.{NoVerb, UnknownVerb, Form, Value, SameName}
 use Rattle.netmesh_cli.specs.declared.outcome.Refusal.{Refusal}
-use Rattle.netmesh_cli.specs.declared.outcome.Refusal.TheVariants.{Words, In2d, Geometry, Rules, Folder, Out, Memory, NotYet}
+use Rattle.netmesh_cli.specs.declared.outcome.Refusal.TheVariants.{Words, In2d, Geometry, Rules, Vol, Log, Folder, Out, Memory, NotYet}
 
 -- `refused`, the kind, and the numbers, each after one space
 abbrev pub numbers_line : List ℕ → List ℤ → List ℕ
@@ -64,12 +68,32 @@ rules_line (fault_of_rules.BadIndex rule word) =
 rules_line (fault_of_rules.TooLoose rule) = numbers_line (codes "rules") (pos 5 ∷ pos rule ∷ [])
 rules_line fault_of_rules.Memory = []
 
+-- the number of the fault of a mesh, and its word; want of memory has no line
+abbrev pub vol_line : VolRefusal → List ℕ
+vol_line (fault_of_mesh.Syntax word) = numbers_line (codes "vol") (pos 1 ∷ pos word ∷ [])
+vol_line (fault_of_mesh.Number word) = numbers_line (codes "vol") (pos 2 ∷ pos word ∷ [])
+vol_line (fault_of_mesh.BadIndex word) = numbers_line (codes "vol") (pos 3 ∷ pos word ∷ [])
+vol_line (fault_of_mesh.TooMany word) = numbers_line (codes "vol") (pos 4 ∷ pos word ∷ [])
+vol_line fault_of_mesh.Memory = []
+
+-- the number of the fault of a log, and its word, or the domain and the step that it doesn't have; want of memory
+-- has no line
+abbrev pub log_line : LogRefusal → List ℕ
+log_line (fault_of_log.Syntax word) = numbers_line (codes "log") (pos 1 ∷ pos word ∷ [])
+log_line (fault_of_log.Number word) = numbers_line (codes "log") (pos 2 ∷ pos word ∷ [])
+log_line (fault_of_log.BadIndex word) = numbers_line (codes "log") (pos 3 ∷ pos word ∷ [])
+log_line (fault_of_log.NoState domain step) =
+    numbers_line (codes "log") (pos 4 ∷ pos domain ∷ pos step ∷ [])
+log_line fault_of_log.Memory = []
+
 -- `refused`, the kind, its number and values; an answer that isn't taken and want of memory have no line
 abbrev pub refusal_line : Refusal → List ℕ
 refusal_line (Words fault) = numbers_line (codes "words") (pos (words_number fault) ∷ [])
 refusal_line (In2d fault) = in2d_line fault
 refusal_line (Geometry fault) = geometry_line fault
 refusal_line (Rules fault) = rules_line fault
+refusal_line (Vol fault) = vol_line fault
+refusal_line (Log fault) = log_line fault
 refusal_line (Folder name fault) =
     codes "refused folder " ++ decimal fault ++ codes " " ++ name ++ codes "\n"
 refusal_line Out = []

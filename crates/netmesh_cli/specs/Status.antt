@@ -3,13 +3,15 @@ use Rattle.std.specs.Prelude.{ℕ}
 use Rattle.netmesh_cli.specs.declared.outcome.Outcome.{Outcome}
 use Rattle.netmesh_cli.specs.declared.outcome.Outcome.TheVariants.{Done, Stuck, Stopped, Good, Bad, Shown, Refused}
 use Rattle.netmesh_cli.specs.declared.outcome.Refusal.{Refusal}
-use Rattle.netmesh_cli.specs.declared.outcome.Refusal.TheVariants.{Words, In2d, Geometry, Rules, Folder, Out, Memory, NotYet}
+use Rattle.netmesh_cli.specs.declared.outcome.Refusal.TheVariants.{Words, In2d, Geometry, Rules, Vol, Log, Folder, Out, Memory, NotYet}
 
 abbrev pub refusal_status : Refusal → ℕ
 refusal_status (Words _) = 2
 refusal_status (In2d _) = 3
 refusal_status (Geometry _) = 3
 refusal_status (Rules _) = 4
+refusal_status (Vol _) = 10
+refusal_status (Log _) = 11
 refusal_status (Folder _ _) = 5
 refusal_status Out = 6
 refusal_status Memory = 7

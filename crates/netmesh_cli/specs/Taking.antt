@@ -16,7 +16,7 @@ use Rattle.folder_io.specs.States.{FolderState}
 use Rattle.netmesh_cli.specs.declared.outcome.Refusal.{Refusal}
 use Rattle.netmesh_cli.specs.declared.outcome.Refusal.TheVariants.{Folder, Memory}
 use Rattle.netmesh_cli.specs.Causes.{HoldsWithin, FolderFault}
-use Rattle.netmesh_cli.specs.Kinds.{Kind, AGeometry, ARuleFile, limit_of, Accepts, Rejects, CanReject}
+use Rattle.netmesh_cli.specs.Kinds.{Kind, AGeometry, ARuleFile, AMesh, AStateLog, limit_of, Accepts, Rejects, CanReject}
 
 -- a file that is taken: its name, and what it is taken for
 pub record Taken : Type 0 where
@@ -30,6 +30,14 @@ geometry_at name = record { name = name; kind = AGeometry }
 abbrev pub rule_file_at : List ℕ → Taken
 rule_file_at name = record { name = name; kind = ARuleFile }
 
+-- a file that is taken for a mesh at the shift of the geometry of the first name
+abbrev pub mesh_at : List ℕ → List ℕ → Taken
+mesh_at geometry name = record { name = name; kind = AMesh geometry }
+
+-- a file that is taken for a log with this domain and this step of it
+abbrev pub state_log_at : ℕ → ℕ → List ℕ → Taken
+state_log_at domain step name = record { name = name; kind = AStateLog domain step }
+
 abbrev pub names_taken : List Taken → List (List ℕ)
 names_taken takes = map (λ file. file.name) takes
 
@@ -37,13 +45,13 @@ names_taken takes = map (λ file. file.name) takes
 pub record HoldsAccepted (files : Files) (file : Taken) : Type 0 where
   pub bytes : List ℕ
   pub holds : HoldsWithin (limit_of file.kind) files file.name bytes
-  pub accepted : Accepts file.kind bytes
+  pub accepted : Accepts files file.kind bytes
 
 -- the bytes under its name are within its limit, and refused so
 pub record HoldsRejected (files : Files) (refusal : Refusal) (file : Taken) : Type 0 where
   pub bytes : List ℕ
   pub holds : HoldsWithin (limit_of file.kind) files file.name bytes
-  pub rejected : Rejects file.kind bytes refusal
+  pub rejected : Rejects files file.kind bytes refusal
 
 -- why a file is refused: 2 it is longer than its limit, 3 it isn't there, or its bytes are refused
 abbrev pub FileRefused : Files → Refusal → Taken → Type 0

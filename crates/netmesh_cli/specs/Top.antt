@@ -22,7 +22,8 @@ use Rattle.netmesh_cli.specs.Words.{AskForUnbuilt}
 use Rattle.netmesh_cli.specs.Causes.{IsMemory, IsUntaken}
 use Rattle.netmesh_cli.specs.Taking.{AreAccepted, FirstRefused}
 use Rattle.netmesh_cli.specs.Run.{MeshInput, IsRunOf, log_of, mesh_of, line_of, outcome_of, IsExactRun}
-use Rattle.netmesh_cli.specs.Jobs.{Job, takes_of, puts_of, EndsSo, HoldsGeometry, HoldsRules}
+use Rattle.netmesh_cli.specs.Held.{HoldsGeometry, HoldsRules}
+use Rattle.netmesh_cli.specs.Jobs.{Job, takes_of, puts_of, EndsSo}
 use Rattle.netmesh_cli.specs.Served.{IsServed, IsAnswer, RefusalCause, RefusalStands, Keeps}
 use Rattle.netmesh_cli.specs.Lines.{refusal_line}
 

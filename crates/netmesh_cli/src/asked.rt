@@ -21,6 +21,17 @@ pub enum Asked<'a> {
     Geom(&'a str),
     /// Rules, printed.
     Rules(&'a str),
+    /// Whether a mesh is whole for a geometry.
+    Check {
+        geometry: &'a str,
+        mesh: &'a str,
+    },
+    /// The state of a domain after a step of its run, from a log.
+    View {
+        log: &'a str,
+        domain: u64,
+        step: u64,
+    },
 }
 
 /// What the words of a call ask for, or why they are refused.
@@ -34,6 +45,8 @@ pub fn read_asked<'a>(alloc: Global, words: &'a [String]) -> Result<Asked<'a>, R
         Ok(Command::Mesh(call)) => Ok(Asked::Mesh(call)),
         Ok(Command::Geom { geometry }) => Ok(Asked::Geom(geometry)),
         Ok(Command::Rules { rules }) => Ok(Asked::Rules(rules)),
+        Ok(Command::Check { geometry, mesh }) => Ok(Asked::Check { geometry, mesh }),
+        Ok(Command::View { log, domain, step }) => Ok(Asked::View { log, domain, step }),
         Ok(_) => Err(Refusal::NotYet { part: WORDS_PART }),
         Err(fault) => Err(Refusal::Words(fault)),
     }

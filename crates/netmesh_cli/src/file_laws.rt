@@ -6,12 +6,13 @@ ghost use Rattle.netmesh_cli.specs.declared.outcome.Refusal.{Refusal as RefusalV
 ghost use Rattle.netmesh_cli.specs.Kinds.{Kind, Accepts, Rejects};
 ghost use Rattle.netmesh_cli.specs.Taking.{Taken, AreAccepted, FirstRefused};
 
-/// Bytes that are accepted as a file of a kind aren't refused as one, and bytes have one refusal at most.
+/// Bytes that are accepted as a file of a kind, beside the files that are held, aren't refused as one, and
+/// bytes have one refusal at most.
 pub fn one_rejection()
-    ensures one { (kind : Kind) (bytes : List ℕ) (r s : RefusalValue)
-        → Rejects kind bytes r → Rejects kind bytes s → r ≡ s }
-    ensures never_both { (kind : Kind) (bytes : List ℕ) (r : RefusalValue)
-        → Accepts kind bytes → ¬ Rejects kind bytes r }
+    ensures one { (files : Files) (kind : Kind) (bytes : List ℕ) (r s : RefusalValue)
+        → Rejects files kind bytes r → Rejects files kind bytes s → r ≡ s }
+    ensures never_both { (files : Files) (kind : Kind) (bytes : List ℕ) (r : RefusalValue)
+        → Accepts files kind bytes → ¬ Rejects files kind bytes r }
 {}
 
 /// Of the files that are taken one at most is the first that isn't accepted, it has one refusal, and there is

@@ -8,7 +8,7 @@ ghost use Rattle.geom_check.specs.Geometry.{IsGeometryOf};
 ghost use Rattle.netmesh_cli.specs.Accepted.{IsText, IsGeometryText};
 ghost use Rattle.netmesh_cli.specs.Kinds.{GeometryRejects};
 ghost use Rattle.netmesh_cli.specs.Taking.{TakeRefused, geometry_at};
-ghost use Rattle.netmesh_cli.specs.Jobs.{HoldsGeometry};
+ghost use Rattle.netmesh_cli.specs.Held.{HoldsGeometry};
 ghost use Rattle.netmesh_cli.specs.BytesRefused.{ReadRefused, CheckRefused, MayRefuse};
 
 use super::{FILE_LIMIT, Refusal, files};

@@ -2,15 +2,18 @@
 
 ghost use Rattle.std.specs.Prelude.{◌≡◌, ◌++◌, ◌∷◌, [], pos, IfOk, OnOk, string_bytes, codes};
 ghost use Rattle.std.specs.Fmt.{decimal};
-ghost use Rattle.netmesh_cli.specs.Lines.{numbers_line, words_number, in2d_line, geometry_line, rules_line, refusal_line};
+ghost use Rattle.netmesh_cli.specs.Lines.{numbers_line, words_number, in2d_line, geometry_line};
+ghost use Rattle.netmesh_cli.specs.Lines.{rules_line, vol_line, log_line, refusal_line};
 
 use super::{Refusal, WordsFault};
 use geom_check::GeomRefusal;
 use in2d_reader::In2dRefusal;
 use rule_reader::RuleRefusal;
+use run_log::LogRefusal;
 use std::alloc::{AllocError, Global};
 use std::fmt::Write;
 use text_rows::write_spaced_wide;
+use vol_format::VolRefusal;
 
 /// Adds a number in decimal digits.
 fn push_number(text: &mut String, n: u32) -> Result<(), AllocError>
@@ -140,6 +143,34 @@ fn rules_line(alloc: Global, fault: &RuleRefusal) -> Result<Vec<u8>, AllocError>
     }
 }
 
+/// The line of a mesh that is at fault.
+fn vol_line(alloc: Global, fault: &VolRefusal) -> Result<Vec<u8>, AllocError>
+    ensures { IfOk result (λ line. line.items ≡ vol_line fault.now) }
+{
+    match fault {
+        VolRefusal::Syntax { word } => numbers_line(alloc, "vol", &[1, *word as i128]),
+        VolRefusal::Number { word } => numbers_line(alloc, "vol", &[2, *word as i128]),
+        VolRefusal::BadIndex { word } => numbers_line(alloc, "vol", &[3, *word as i128]),
+        VolRefusal::TooMany { word } => numbers_line(alloc, "vol", &[4, *word as i128]),
+        VolRefusal::Memory => Ok(Vec::new(alloc)),
+    }
+}
+
+/// The line of a log that is at fault, or doesn't have a state.
+fn log_line(alloc: Global, fault: &LogRefusal) -> Result<Vec<u8>, AllocError>
+    ensures { IfOk result (λ line. line.items ≡ log_line fault.now) }
+{
+    match fault {
+        LogRefusal::Syntax { word } => numbers_line(alloc, "log", &[1, *word as i128]),
+        LogRefusal::Number { word } => numbers_line(alloc, "log", &[2, *word as i128]),
+        LogRefusal::BadIndex { word } => numbers_line(alloc, "log", &[3, *word as i128]),
+        LogRefusal::NoState { domain, step } => {
+            numbers_line(alloc, "log", &[4, *domain as i128, *step as i128])
+        }
+        LogRefusal::Memory => Ok(Vec::new(alloc)),
+    }
+}
+
 /// The line of a refusal: `refused`, its kind, its number and its values.
 pub fn line_of(alloc: Global, refusal: &Refusal) -> Result<Vec<u8>, AllocError>
     ensures { IfOk result (λ line. line.items ≡ refusal_line refusal.now) }
@@ -149,6 +180,8 @@ pub fn line_of(alloc: Global, refusal: &Refusal) -> Result<Vec<u8>, AllocError>
         Refusal::In2d(fault) => in2d_line(alloc, fault),
         Refusal::Geometry(fault) => geometry_line(alloc, fault),
         Refusal::Rules(fault) => rules_line(alloc, fault),
+        Refusal::Vol(fault) => vol_line(alloc, fault),
+        Refusal::Log(fault) => log_line(alloc, fault),
         Refusal::Folder { name, fault } => folder_line(alloc, name.as_slice(), *fault),
         Refusal::Out | Refusal::Memory => Ok(Vec::new(alloc)),
         Refusal::NotYet { part } => not_yet_line(alloc, *part),

@@ -1,7 +1,7 @@
 //! Which files and which answer come of the files that the words name, and if none, why?
 //!
 //! Each accepted geometry is shown by `geom`, and meshed by `mesh` by the rules of a file, which `rules`
-//! shows. The other verbs are not built yet.
+//! shows. `check` judges a mesh, and `view` shows a state of a log. The other verbs are not built yet.
 //!
 //! 1. The words name the files. Each file is taken and read before the next is taken.
 //! 2. What is put and written is made of values, between the last take and the first put: so it is a
@@ -20,6 +20,7 @@ ghost use Rattle.netmesh_cli.specs.Status.{status_of};
 
 mod areas;
 mod asked;
+mod check;
 mod command;
 pub mod file_laws;
 mod files;
@@ -30,8 +31,10 @@ mod geometry;
 pub mod geometry_laws;
 pub mod laws;
 mod lines;
+mod log_file;
 mod made;
 mod mesh;
+mod mesh_file;
 mod outcome;
 mod rule_file;
 pub mod rule_laws;
@@ -43,6 +46,7 @@ mod settings;
 mod texts;
 mod top;
 mod values;
+mod view;
 mod words_fault;
 
 pub use command::{Command, MeshOptions, Verb, read_words};
@@ -64,6 +68,9 @@ mod tests;
 
 /// The greatest number of bytes of a geometry file and of a rule file.
 const FILE_LIMIT: u64 = 1_048_576;
+
+/// The greatest number of bytes of a mesh and of a log.
+const RUN_FILE_LIMIT: u64 = 268_435_456;
 
 /// The status where memory is refused to `main` itself.
 const NO_MEMORY: u8 = 7;

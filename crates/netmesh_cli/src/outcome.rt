@@ -8,7 +8,9 @@ use super::WordsFault;
 use geom_check::GeomRefusal;
 use in2d_reader::In2dRefusal;
 use rule_reader::RuleRefusal;
+use run_log::LogRefusal;
 use std::alloc::AllocError;
+use vol_format::VolRefusal;
 use word_scan::Name;
 
 /// How a call of the program ended.
@@ -41,6 +43,10 @@ pub enum Refusal {
     Geometry(GeomRefusal),
     /// The rule file is at fault.
     Rules(RuleRefusal),
+    /// The mesh's text is none at the shift of the geometry.
+    Vol(VolRefusal),
+    /// The log's text is none, or it doesn't have the state that is asked for.
+    Log(LogRefusal),
     /// The folder refused the file of this name: 1 a call failed, 2 the file is longer than its
     /// limit, 3 there is no such file.
     Folder { name: Name, fault: u32 },
@@ -72,6 +78,8 @@ impl Refusal {
             Refusal::Folder { .. } => 5,
             Refusal::Out => 6,
             Refusal::Memory => 7,
+            Refusal::Vol(_) => 10,
+            Refusal::Log(_) => 11,
             Refusal::NotYet { .. } => 12,
         }
     }
@@ -80,7 +88,8 @@ impl Refusal {
 impl Outcome {
     /// The status that the program ends with: 0 where the work is done, 1 stuck, 2 words at fault,
     /// 3 a geometry that isn't accepted, 4 a rule file at fault, 5 a folder's refusal, 6 the answer not
-    /// taken, 7 no memory, 8 stopped, 9 a bad verdict, 12 a form that is not built yet.
+    /// taken, 7 no memory, 8 stopped, 9 a bad verdict, 10 a mesh at fault, 11 a log at fault, 12 a form that
+    /// is not built yet.
     pub fn status(&self) -> u8
         ensures { result ≡ status_of self.now }
     {

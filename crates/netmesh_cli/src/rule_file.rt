@@ -6,7 +6,7 @@ ghost use Rattle.rule_reader.specs.Normal.{CanPrint};
 ghost use Rattle.netmesh_cli.specs.Accepted.{AreRules};
 ghost use Rattle.netmesh_cli.specs.Kinds.{RulesRejects};
 ghost use Rattle.netmesh_cli.specs.Taking.{TakeRefused, rule_file_at};
-ghost use Rattle.netmesh_cli.specs.Jobs.{HoldsRules};
+ghost use Rattle.netmesh_cli.specs.Held.{HoldsRules};
 ghost use Rattle.netmesh_cli.specs.BytesRefused.{MayRefuse};
 
 use super::{FILE_LIMIT, Refusal, files};

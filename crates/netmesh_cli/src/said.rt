@@ -1,14 +1,16 @@
 //! What is said to a person, on standard error, of a call that was refused. No contract speaks of it.
 
-use super::{Command, FILE_LIMIT, Refusal, WordsFault, read_words};
+use super::{Command, FILE_LIMIT, RUN_FILE_LIMIT, Refusal, WordsFault, read_words};
 use fault_text::{File, Refused, sentence};
 use folder_io::Folder;
 use geom_check::GeomRefusal;
 use in2d_reader::In2dRefusal;
 use rule_reader::RuleRefusal;
+use run_log::LogRefusal;
 use std::alloc::Global;
 use std::fs;
 use std::io::Write;
+use vol_format::VolRefusal;
 
 /// The numbers of a refusal's line, with noughts behind them.
 type Numbers = [i128; 5];
@@ -51,6 +53,26 @@ fn numbers_of_rules(fault: &RuleRefusal) -> Numbers {
     }
 }
 
+fn numbers_of_mesh(fault: &VolRefusal) -> Numbers {
+    match fault {
+        VolRefusal::Syntax { word } => [1, *word as i128, 0, 0, 0],
+        VolRefusal::Number { word } => [2, *word as i128, 0, 0, 0],
+        VolRefusal::BadIndex { word } => [3, *word as i128, 0, 0, 0],
+        VolRefusal::TooMany { word } => [4, *word as i128, 0, 0, 0],
+        VolRefusal::Memory => [0; 5],
+    }
+}
+
+fn numbers_of_log(fault: &LogRefusal) -> Numbers {
+    match fault {
+        LogRefusal::Syntax { word } => [1, *word as i128, 0, 0, 0],
+        LogRefusal::Number { word } => [2, *word as i128, 0, 0, 0],
+        LogRefusal::BadIndex { word } => [3, *word as i128, 0, 0, 0],
+        LogRefusal::NoState { domain, step } => [4, *domain as i128, *step as i128, 0, 0],
+        LogRefusal::Memory => [0; 5],
+    }
+}
+
 /// Its number among the faults of words.
 fn number_of_words(fault: WordsFault) -> u32 {
     match fault {
@@ -62,18 +84,66 @@ fn number_of_words(fault: WordsFault) -> u32 {
     }
 }
 
-/// The names of the geometry and of the rules that a command takes.
-fn names_taken<'a>(command: &Command<'a>) -> (&'a str, &'a str) {
+/// The names of the files that a command takes, empty where it takes none of the kind.
+#[derive(Clone, Copy)]
+struct Names<'a> {
+    geometry: &'a str,
+    rules: &'a str,
+    mesh: &'a str,
+    log: &'a str,
+}
+
+/// No files.
+const NO_NAMES: Names<'static> = Names {
+    geometry: "",
+    rules: "",
+    mesh: "",
+    log: "",
+};
+
+/// The names of the files that a command takes.
+fn names_taken<'a>(command: &Command<'a>) -> Names<'a> {
     match command {
-        Command::Mesh(call) => (call.geometry, call.rules),
-        Command::Geom { geometry } | Command::Check { geometry, .. } => (geometry, ""),
-        Command::Rules { rules } => ("", rules),
+        Command::Mesh(call) => Names {
+            geometry: call.geometry,
+            rules: call.rules,
+            ..NO_NAMES
+        },
+        Command::Geom { geometry } => Names {
+            geometry,
+            ..NO_NAMES
+        },
+        Command::Rules { rules } => Names { rules, ..NO_NAMES },
+        Command::Check { geometry, mesh } => Names {
+            geometry,
+            mesh,
+            ..NO_NAMES
+        },
+        Command::View { log, .. } => Names { log, ..NO_NAMES },
         Command::Replay {
             geometry,
             rules,
-            ..
-        } => (geometry, rules),
-        Command::View { .. } | Command::Gen { .. } => ("", ""),
+            log,
+        } => Names {
+            geometry,
+            rules,
+            log,
+            ..NO_NAMES
+        },
+        Command::Gen { .. } => NO_NAMES,
+    }
+}
+
+/// How many bytes of the file of this name a call with these words takes at most.
+fn limit_of(alloc: Global, words: &[String], name: &str) -> u64 {
+    let Ok(Ok(command)) = read_words(alloc, words) else {
+        return FILE_LIMIT;
+    };
+    let names = names_taken(&command);
+    if name != names.geometry && (name == names.mesh || name == names.log) {
+        RUN_FILE_LIMIT
+    } else {
+        FILE_LIMIT
     }
 }
 
@@ -83,9 +153,10 @@ fn bytes_again<F: Folder>(
     alloc: Global,
     folder: &mut F,
     name: &str,
+    limit: u64,
 ) -> Option<Vec<u8>> {
     if fs::metadata(rt, name).ok()?.is_file() {
-        folder.take(alloc, name, FILE_LIMIT).ok()
+        folder.take(alloc, name, limit).ok()
     } else {
         None
     }
@@ -105,7 +176,11 @@ pub fn say<F: Folder>(rt: &HostRuntime, folder: &mut F, words: &[String], refusa
             let fault = number_of_words(*fault);
             write_sentence(rt, &Refused::Words { words, fault });
         }
-        Refusal::In2d(_) | Refusal::Geometry(_) | Refusal::Rules(_) => {
+        Refusal::In2d(_)
+        | Refusal::Geometry(_)
+        | Refusal::Rules(_)
+        | Refusal::Vol(_)
+        | Refusal::Log(_) => {
             say_of_file(rt, folder, words, refusal);
         }
         Refusal::Folder { name, fault } => {
@@ -115,6 +190,7 @@ pub fn say<F: Folder>(rt: &HostRuntime, folder: &mut F, words: &[String], refusa
                     &Refused::Folder {
                         name,
                         fault: *fault,
+                        limit: limit_of(rt.alloc(), words, name),
                     },
                 );
             }
@@ -125,52 +201,44 @@ pub fn say<F: Folder>(rt: &HostRuntime, folder: &mut F, words: &[String], refusa
     }
 }
 
-/// The same of a file that was refused by what it holds.
+/// The numbers of the line of a refusal for what a file holds.
+fn numbers_of(refusal: &Refusal) -> Numbers {
+    match refusal {
+        Refusal::In2d(fault) => numbers_of_in2d(fault),
+        Refusal::Geometry(fault) => numbers_of_geometry(fault),
+        Refusal::Rules(fault) => numbers_of_rules(fault),
+        Refusal::Vol(fault) => numbers_of_mesh(fault),
+        Refusal::Log(fault) => numbers_of_log(fault),
+        _ => [0; 5],
+    }
+}
+
+/// A refusal for what a file holds, as plain values.
+fn refused_of<'a>(refusal: &Refusal, file: File<'a>, numbers: &'a [i128]) -> Refused<'a> {
+    match refusal {
+        Refusal::Geometry(_) => Refused::Geometry { file, numbers },
+        Refusal::Rules(_) => Refused::Rules { file, numbers },
+        Refusal::Vol(_) => Refused::Mesh { file, numbers },
+        Refusal::Log(_) => Refused::Log { file, numbers },
+        _ => Refused::In2d { file, numbers },
+    }
+}
+
+/// Says why a file was refused by what it holds.
 fn say_of_file<F: Folder>(rt: &HostRuntime, folder: &mut F, words: &[String], refusal: &Refusal) {
     let Ok(Ok(command)) = read_words(rt.alloc(), words) else {
         return;
     };
-    let (geometry, rules) = names_taken(&command);
-    let name = if matches!(refusal, Refusal::Rules(_)) {
-        rules
-    } else {
-        geometry
+    let names = names_taken(&command);
+    let (name, limit) = match refusal {
+        Refusal::Rules(_) => (names.rules, FILE_LIMIT),
+        Refusal::Vol(_) => (names.mesh, RUN_FILE_LIMIT),
+        Refusal::Log(_) => (names.log, RUN_FILE_LIMIT),
+        _ => (names.geometry, FILE_LIMIT),
     };
-    let Some(bytes) = bytes_again(rt, rt.alloc(), folder, name) else {
-        return;
-    };
-    let file = File { name, text: &bytes };
-    match refusal {
-        Refusal::In2d(fault) => {
-            let numbers = numbers_of_in2d(fault);
-            write_sentence(
-                rt,
-                &Refused::In2d {
-                    file,
-                    numbers: &numbers,
-                },
-            );
-        }
-        Refusal::Geometry(fault) => {
-            let numbers = numbers_of_geometry(fault);
-            write_sentence(
-                rt,
-                &Refused::Geometry {
-                    file,
-                    numbers: &numbers,
-                },
-            );
-        }
-        Refusal::Rules(fault) => {
-            let numbers = numbers_of_rules(fault);
-            write_sentence(
-                rt,
-                &Refused::Rules {
-                    file,
-                    numbers: &numbers,
-                },
-            );
-        }
-        _ => {}
+    if let Some(bytes) = bytes_again(rt, rt.alloc(), folder, name, limit) {
+        let file = File { name, text: &bytes };
+        let numbers = numbers_of(refusal);
+        write_sentence(rt, &refused_of(refusal, file, &numbers));
     }
 }

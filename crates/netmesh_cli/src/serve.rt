@@ -7,10 +7,12 @@ ghost use Rattle.netmesh_cli.specs.Jobs.{names_of_puts, puts_of};
 ghost use Rattle.netmesh_cli.specs.Served.{IsServed, IsAnswer, MakeRefused, Course, WrittenBefore};
 
 use super::asked::Asked;
+use super::check::make_check;
 use super::geom::make_geom;
 use super::made::Made;
 use super::mesh::make_mesh;
 use super::rules::make_rules;
+use super::view::make_view;
 use super::{Outcome, Refusal, files};
 use folder_io::{Folder, Sink};
 use mesh_run::Gate;
@@ -40,6 +42,8 @@ fn make<'a, R: Threads + Sync, F: Folder, G: Gate + Sync>(
         Asked::Mesh(call) => make_mesh(rt, alloc, call, folder, gate),
         Asked::Geom(name) => make_geom(alloc, name, folder),
         Asked::Rules(name) => make_rules(alloc, name, folder),
+        Asked::Check { geometry, mesh } => make_check(alloc, geometry, mesh, folder),
+        Asked::View { log, domain, step } => make_view(alloc, log, *domain, *step, folder),
     }
 }
 

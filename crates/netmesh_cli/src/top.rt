@@ -68,10 +68,13 @@ fn answered<R: Threads + Sync, F: Folder, O: Sink, G: Gate + Sync>(
 /// puts the log and then the mesh, and writes a summary line. `--maxh V` is the greatest size anywhere,
 /// and `--grading N` how fast sizes may grow. `geom GEOMETRY` writes the geometry's normal text, and as
 /// comments its shift and the doubled areas of its domains. `rules RULES` writes of each rule whether it
-/// is live or why it never applies, and the normal text of them all.
+/// is live or why it never applies, and the normal text of them all. `check GEOMETRY MESH` writes that
+/// the mesh is whole for the geometry, or its first fault. `view LOG DOMAIN STEP` writes the state of a
+/// domain after so many applications of its run.
 ///
 /// Refused are words at fault, and the other verbs; a file that isn't there, is too long or can't be
-/// taken or put; a text of no geometry; a geometry that isn't accepted; and bytes that are no rule file.
+/// taken or put; a text of no geometry; a geometry that isn't accepted; bytes that are no rule file, no
+/// mesh, or no log with the state that is asked for.
 /// A refusal writes its line. Where memory is refused the outcome says so, and no clause says when it
 /// may be.
 pub fn netmesh<R: Threads + Sync, F: Folder, O: Sink, G: Gate + Sync>(

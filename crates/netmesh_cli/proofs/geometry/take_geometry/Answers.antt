@@ -1,6 +1,7 @@
 use Rattle.std.proofs.lemmas.Result.{MatchResult-weaker, err_from_is_err_and}
 use Rattle.netmesh_cli.specs.Taking.{geometry_at}
 use Rattle.netmesh_cli.proofs.Firsts.{take_of_fetch, take_of_bytes}
+use Rattle.netmesh_cli.proofs.Rejecting.{geometry_may}
 use Rattle.netmesh_cli.proofs.geometry.take_geometry.Goals as goal
 
 pub returns-in_err-bytes-clause-refused : goal.returns-in_err-bytes-clause-refused
@@ -10,4 +11,4 @@ returns-in_err-bytes-clause-refused g c =
 
 pub returns-clause-refused : goal.returns-clause-refused
 returns-clause-refused g c = MatchResult-weaker c.read_geometry.result c.read_geometry.ensures.refused (λ _ h. h)
-    (λ r refused. take_of_bytes _ _ r (geometry_at c.args.name.now) c.in_ok-bytes.bytes.items c.deref.result.now c.deref.ensures.value c.in_ok-bytes.ensures.bytes refused)
+    (λ r refused. take_of_bytes _ _ r (geometry_at c.args.name.now) c.in_ok-bytes.bytes.items c.deref.result.now c.deref.ensures.value c.in_ok-bytes.ensures.bytes (geometry_may _ _ r refused))

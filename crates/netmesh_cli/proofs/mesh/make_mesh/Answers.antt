@@ -4,7 +4,8 @@ use Rattle.std.specs.Prelude.{Option}
 use Rattle.folder_io.specs.Causes.{Told}
 use Rattle.folder_io.specs.Names.{Files}
 use Rattle.netmesh_cli.specs.Run.{MeshInput}
-use Rattle.netmesh_cli.specs.Jobs.{HoldsRules, made_of, task_of_mesh}
+use Rattle.netmesh_cli.specs.Held.{HoldsRules}
+use Rattle.netmesh_cli.specs.Jobs.{made_of, task_of_mesh}
 use Rattle.netmesh_cli.proofs.Making.{mesh_at_geometry, mesh_at_rules, mesh_made, made_of_run}
 use Rattle.netmesh_cli.proofs.mesh.make_mesh.Goals as goal
 
