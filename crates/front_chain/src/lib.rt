@@ -28,6 +28,7 @@ mod order;
 mod side;
 
 pub use front::{Front, Near};
+pub use opening::SWEEP;
 pub use std::alloc::AllocError as OutOfMemory;
 
 #[cfg(test)]

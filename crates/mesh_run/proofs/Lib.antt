@@ -38,3 +38,5 @@ pub mod OpenedRun
 pub mod Zipped
 -- StillNone: a refusal stays true.
 pub mod StillNone
+-- Conforming: the states of all domains conform.
+pub mod Conforming
