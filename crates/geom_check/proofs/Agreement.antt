@@ -1,7 +1,7 @@
 -- Risers that agree are in that order at each height that both cross. So where neighbours agree from the left end of a strip to its right end,
 -- the winding number of any chosen domains is 1 in the gaps of a chosen domain and 0 in all others.
 -- Stands on RiserPlace, RiserOrder, KeyOrder and StripWinding.
-use Rattle.std.proofs.Common.{◌≡◌, ◌≢◌, ℕ, zero, suc, ◌+◌, ◌-◌, ◌*◌, ◌/◌, ◌<◌, ◌≤◌, Bool, true, false, List, [], ◌∷◌, length, map, take, sum_by, slice_index_or, All, AllPairs, Contains, ◌⊎◌, inl, inr, sym, ◌∙◌, ap, subst, refl, arith}
+use Rattle.std.proofs.Common.{◌≡◌, ℕ, zero, suc, ◌+◌, ◌*◌, ◌/◌, Bool, true, false, List, [], ◌∷◌, take, sum_by, inl, inr, sym, ◌∙◌, ap, subst, refl, arith}
 use lib.IntN.{ℤ, pos, ◌+ℤ◌, ◌-ℤ◌, ◌*ℤ◌}
 use lib.Signed.{◌<ℤ◌, ◌≤ℤ◌}
 use Rattle.std.proofs.lemmas.Int.{ints}

@@ -1,9 +1,9 @@
 -- A strip is sound where the risers that pass it, in the order of a list, agree each with the next: in it the winding number of
 -- a domain is 1 in a gap with the domain on both sides, and else 0.
 -- Stands on Tallies, Agreement and StripWinding.
-use Rattle.std.proofs.Common.{◌≡◌, ◌≢◌, ℕ, zero, suc, ◌+◌, ◌-◌, ◌<◌, ◌≤◌, Bool, true, false, cond, List, [], ◌∷◌, length, map, filter, sum_by, slice_index, slice_index_or, All, AllPairs, Contains, ◌⊎◌, inl, inr, sym, ◌∙◌, ap, subst, refl, arith}
-use lib.IntN.{ℤ, pos, ◌+ℤ◌, ◌*ℤ◌}
-use lib.Signed.{◌<ℤ◌, ◌≤ℤ◌}
+use Rattle.std.proofs.Common.{◌≡◌, ◌≢◌, ℕ, zero, suc, ◌+◌, ◌-◌, ◌<◌, ◌≤◌, Bool, true, false, cond, List, [], ◌∷◌, length, map, filter, sum_by, slice_index, slice_index_or, All, AllPairs, Contains, inl, inr, sym, ◌∙◌, ap, subst, refl, arith}
+use lib.IntN.{ℤ, ◌+ℤ◌}
+use lib.Signed.{◌<ℤ◌}
 use Rattle.std.proofs.lemmas.Int.{ints}
 use Rattle.std.proofs.lemmas.Bool.{cases_lt}
 use Rattle.std.proofs.lemmas.List.{get_or-map, length-map}
@@ -13,8 +13,8 @@ use Rattle.std.specs.List.Sorted.{IsStrictlyIncreasing}
 use Rattle.geom_check.specs.declared.risers.Riser.{Riser}
 use Rattle.geom_check.specs.declared.risers.Passing.{Passing}
 use Rattle.geom_check.specs.declared.events.Event.{Event}
-use Rattle.geom_check.specs.Risers.{passes, winding_of}
-use Rattle.geom_check.specs.RiserOrder.{IsAcross, IsFree, IsWest, IsPassing, IsKey, IsRiserOnGrid, IsClear, IsOrder, HasLevels, far, height_of}
+use Rattle.geom_check.specs.Risers.{passes}
+use Rattle.geom_check.specs.RiserOrder.{IsAcross, IsFree, IsWest, IsPassing, IsKey, IsRiserOnGrid, IsClear, IsOrder, HasLevels, height_of}
 use Rattle.geom_check.specs.Walk.{DoAgree, riser_at, AreIn, IsChain, AreEndsOf, IsWalking, IsUpTo, IsSoundFor, sum_to}
 use Rattle.geom_check.proofs.Reordered.{two_of}
 use Rattle.geom_check.proofs.Gathering.{free_back}

@@ -1,8 +1,8 @@
 -- What has begun and not ended is what passes: after the events up to the lower height of a strip the order has each riser that
 -- passes the strip once, and no other. Counted by sums: f over the order is f over the risers that pass.
-use Rattle.std.proofs.Common.{◌≡◌, ℕ, zero, suc, ◌+◌, ◌<◌, ◌≤◌, Bool, true, false, cond, if◌then◌else◌, List, [], ◌∷◌, length, take, drop, filter, sum_by, slice_index_or, All, sym, ◌∙◌, ap, subst, refl, arith, ◌⊎◌, inl, inr}
+use Rattle.std.proofs.Common.{◌≡◌, ℕ, zero, suc, ◌+◌, ◌<◌, ◌≤◌, Bool, true, false, cond, if◌then◌else◌, List, [], ◌∷◌, length, take, drop, filter, sum_by, slice_index_or, All, sym, ◌∙◌, ap, refl, arith, ◌⊎◌, inl, inr}
 use lib.IntN.{ℤ, pos, ◌+ℤ◌, ◌-ℤ◌}
-use lib.Signed.{◌<ℤ◌, ◌≤ℤ◌, lt_z, le_z}
+use lib.Signed.{◌<ℤ◌, ◌≤ℤ◌, le_z}
 use Rattle.std.proofs.lemmas.Int.{ints}
 use Rattle.std.proofs.lemmas.List.{take_all}
 use Rattle.std.proofs.lemmas.List.Sums.{sum_by-cons, sum_by-take-drop, sum_by_more}
@@ -12,7 +12,7 @@ use Rattle.geom_check.specs.declared.risers.Riser.{Riser}
 use Rattle.geom_check.specs.declared.events.Event.{Event}
 use Rattle.geom_check.specs.Risers.{passes}
 use Rattle.geom_check.specs.RiserOrder.{IsClear}
-use Rattle.geom_check.specs.Walk.{riser_at, IsEnd, AreEndsOf, sum_to, begun, ended, IsWalking, IsUpTo}
+use Rattle.geom_check.specs.Walk.{riser_at, AreEndsOf, sum_to, begun, ended, IsWalking, IsUpTo}
 
 -- ---- sums
 sum_same : {X : Type 0} (f g : X → ℕ) (xs : List X) → ((i : ℕ) (d : X) → i < length xs → f (slice_index_or xs i d) ≡ g (slice_index_or xs i d)) → sum_by f xs ≡ sum_by g xs

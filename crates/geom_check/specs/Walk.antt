@@ -7,8 +7,7 @@
 -- IsChain       each two neighbours of an order agree, and the outside is to the west of the first
 -- IsWalking     an order has the risers that have begun and not ended
 -- AreSettled    each two neighbours agree, but at the places that changed
-use Rattle.std.specs.Prelude.{◌≡◌, ◌⊎◌, ℕ, zero, suc, ◌+◌, ◌-◌, ◌*◌, ◌<◌, ◌≤◌, Bool, true, false, cond, List, length, take, slice_index_or, insert, remove, sum_by, All, Contains, ℤ, pos, ◌+ℤ◌}
-use lib.Signed.{◌≤ℤ◌}
+use Rattle.std.specs.Prelude.{◌≡◌, ◌⊎◌, ℕ, zero, suc, ◌+◌, ◌-◌, ◌*◌, ◌<◌, ◌≤◌, Bool, false, cond, List, length, take, slice_index_or, insert, remove, sum_by, All, Contains, ℤ, pos, ◌+ℤ◌}
 use Rattle.grid_geom.specs.declared.TheConstants.{GRID}
 use Rattle.geom_check.specs.declared.risers.Riser.{Riser}
 use Rattle.geom_check.specs.declared.events.Event.{Event}

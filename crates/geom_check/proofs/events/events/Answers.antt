@@ -1,6 +1,5 @@
 use Rattle.std.proofs.Common.{rules, length}
 use Rattle.std.proofs.lemmas.List.Sorted.{IsNonDecreasingBy-from_sort_by_key}
-use Rattle.geom_check.specs.Walk.{AreEndsOf}
 use Rattle.geom_check.proofs.EventLists.{sorted_ends, rising_levels}
 use Rattle.geom_check.proofs.events.events.Goals as goal
 

@@ -1,4 +1,4 @@
-use Rattle.std.proofs.Common.{ℕ, List, ◌-◌, slice_index, arith, subst}
+use Rattle.std.proofs.Common.{List, ◌-◌, slice_index, arith, subst}
 use Rattle.geom_check.specs.declared.events.Event.{Event}
 use Rattle.geom_check.specs.Walk.{IsUpTo, IsChain, IsWalking}
 use Rattle.geom_check.proofs.Levels.{sound_all}

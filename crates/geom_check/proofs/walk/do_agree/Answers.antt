@@ -1,6 +1,5 @@
-use Rattle.std.proofs.Common.{◌≡◌, true, sym, ◌∙◌}
+use Rattle.std.proofs.Common.{sym, ◌∙◌}
 use lib.IntN.{◌+ℤ◌}
-use Rattle.geom_check.specs.RiserOrder.{IsPassing}
 use Rattle.geom_check.proofs.RiserOrder.{across}
 use Rattle.geom_check.proofs.StripWinding.{passing_test}
 use Rattle.geom_check.proofs.walk.do_agree.Goals as goal

@@ -1,5 +1,5 @@
 use Rattle.std.proofs.Common.{◌≡◌, ◌≤◌, ◌<◌, Contains, length, List, ℕ, subst}
-use Rattle.geom_check.specs.Walk.{BeginsOutside, IsChain, DoAgreeAt}
+use Rattle.geom_check.specs.Walk.{BeginsOutside, DoAgreeAt}
 use Rattle.geom_check.proofs.WalkSteps.{settled_after}
 use Rattle.geom_check.proofs.walk.is_chain.Goals as goal
 

@@ -1,4 +1,4 @@
-use Rattle.std.proofs.Common.{◌≡◌, ◌+◌, ℕ, true, false, sym, ◌∙◌, ap, subst}
+use Rattle.std.proofs.Common.{◌≡◌, ◌+◌, ℕ, sym, ◌∙◌, ap, subst}
 use Rattle.geom_check.specs.Walk.{IsWalking}
 use Rattle.geom_check.proofs.WalkSteps.{walking_put, walking_out}
 use Rattle.geom_check.proofs.walk.pass.Goals as goal
