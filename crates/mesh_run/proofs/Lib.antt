@@ -38,3 +38,7 @@ pub mod OpenedRun
 pub mod Zipped
 -- StillNone: a refusal stays true.
 pub mod StillNone
+-- Touched: boxes of elements.
+pub mod HeldAreas
+-- What is left of refusals.
+pub mod Forgotten

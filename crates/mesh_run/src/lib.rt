@@ -29,6 +29,7 @@ mod numbering;
 mod opening;
 mod run;
 mod stepped;
+mod touched;
 mod whole;
 
 pub use all::run_all;
