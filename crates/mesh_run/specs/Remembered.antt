@@ -3,18 +3,23 @@
 -- AreRemembered   what is remembered of each line is true
 -- IsInArea        a place lies in a closed box; IsWider, a box holds another one
 -- AreKept         what is remembered after forgetting: as before, and only of lines whose reach is apart from an area
+-- IsForgottenNear what is remembered after forgetting near an application's elements
+-- IsNoted         one more refusal is remembered; AreSameRefusals, none is
+-- DoesRemember    a run keeps its state, and what it remembers is true
 -- IsApartFrom     an application's elements lie in a box apart from another one
-use Rattle.std.specs.Prelude.{ℕ, ◌≡◌, ◌≤◌, ◌<◌, ◌≤ℤ◌, List, ◌++◌, map, slice_index_or}
-use Rattle.std.specs.List.{AllByRecursion}
+use Rattle.std.specs.Prelude.{ℕ, ◌≡◌, ◌⊎◌, ◌≤◌, ◌<◌, ◌≤ℤ◌, List, ◌++◌, map, slice_index_or}
+use Rattle.std.specs.List.{All, AllByRecursion}
 use Rattle.grid_geom.specs.declared.Bounds.{Bounds}
 use Rattle.grid_geom.specs.declared.Point.{Point}
 use Rattle.size_field.specs.Size.{SizeField}
 use Rattle.state_law.specs.Saved.{AreInBox}
-use Rattle.state_law.specs.State.{State, corners_of}
+use Rattle.state_law.specs.State.{State, corners_of, point_at}
+use Rattle.rule_reader.specs.declared.rule.Rule.{Rule}
 use Rattle.rule_match.specs.declared.application.Application.{Application}
 use Rattle.rule_match.specs.Least.{HasNone}
-use Rattle.rule_match.specs.Near.{AreBoxesApart, IsBox, IsFarLine}
+use Rattle.rule_match.specs.Near.{AreBoxesApart, IsBox, IsCoveredBy, IsFarLine}
 use Rattle.mesh_run.specs.Steps.{RunSetting}
+use Rattle.mesh_run.specs.RunState.{RunState, IsRunState, IsClassSpent, setting_by}
 
 -- below the class that stands at its number a line has no candidate
 pub record AreRemembered (refused : List ℕ) (s : RunSetting) (st : State) : Type 0 where
@@ -53,3 +58,30 @@ pub record IsKeptOf (sizes : SizeField) (st : State) (n : ℕ) (area : Bounds) (
 pub record AreKept (sizes : SizeField) (st : State) (n : ℕ) (area : Bounds) (before after : List ℕ) : Type 0 where
   pub each : (line : ℕ) → 0 < slice_index_or after line 0
       → IsKeptOf sizes st n area before after line
+
+-- the area holds the corners of the application's elements, the reach covers the rules, and what is remembered is of lines
+-- whose reach is apart from the area
+pub record IsForgottenNear (sizes : SizeField) (rules : List Rule) (st : State) (a : Application) (before after : List ℕ) : Type 0 where
+  pub reach : ℕ
+  pub area : Bounds
+  pub covers : AllByRecursion (IsCoveredBy reach) rules
+  pub holds : All (λ ns. All (λ n. IsInArea area (point_at (st.points ++ a.made) n)) ns) a.elements
+  pub kept : AreKept sizes st reach area before after
+
+-- as much is remembered of each line
+pub record AreSameRefusals (before after : List ℕ) : Type 0 where
+  pub each : (line : ℕ) → slice_index_or after line 0 ≡ slice_index_or before line 0
+
+-- of each line as much is remembered as before, or it is the line and this is remembered
+pub record IsNoted (before after : List ℕ) (line least : ℕ) : Type 0 where
+  pub each : (other : ℕ) → (slice_index_or after other 0 ≡ slice_index_or before other 0)
+      ⊎ ((other ≡ line) × (slice_index_or after other 0 ≡ least))
+
+-- the classes below this one have no candidate
+pub record AreSpentBelow (s : RunSetting) (st : State) (class : ℕ) : Type 0 where
+  pub spent : (n : ℕ) → 1 ≤ n → n < class → IsClassSpent s st n
+
+-- the run's state is that of the definition, and what it remembers is true
+pub record DoesRemember (r : RunState) (refused : List ℕ) : Type 0 where
+  pub is_run : IsRunState r
+  pub remembered : AreRemembered refused (setting_by r.basis) r.state

@@ -41,10 +41,13 @@ pub struct Run<'a> {
     lines: OpeningLines,
     front: Front,
     applications: Vec<Application>,
+    // by line number, the least class at which the line may have a candidate, 0 where it isn't known
+    refused: Vec<u32>,
 }
 
 impl<'a> Model for Run<'a> {
-    ghost use Rattle.mesh_run.specs.RunState.{RunState, IsRunState, run_of};
+    ghost use Rattle.mesh_run.specs.RunState.{RunState, run_of};
+    ghost use Rattle.mesh_run.specs.Remembered.{DoesRemember};
 
     ghost Value = { RunState };
 
@@ -59,7 +62,7 @@ impl<'a> Model for Run<'a> {
       applications = r.applications.items;
     }) };
 
-    ghost invariant = { λ r. IsRunState (run_of (record {
+    ghost invariant = { λ r. DoesRemember (run_of (record {
       domain = r.domain;
       options = r.options;
       sizes = r.sizes;
@@ -68,7 +71,7 @@ impl<'a> Model for Run<'a> {
       lines = r.lines;
       front = r.front;
       applications = r.applications.items;
-    })) };
+    })) r.refused.items };
 }
 
 impl<'a> Run<'a> {
@@ -112,6 +115,7 @@ impl<'a> Run<'a> {
             lines: opening.lines,
             front,
             applications: Vec::new(alloc),
+            refused: Vec::new(alloc),
         })
     }
 

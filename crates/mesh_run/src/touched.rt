@@ -1,15 +1,18 @@
 // Which front lines an application may touch, and what is forgotten of them.
-ghost use Rattle.std.specs.Prelude.{◌≡◌, ◌<◌, ◌≤ℤ◌, ◌++◌, length, All};
+ghost use Rattle.std.specs.Prelude.{◌≡◌, ◌<◌, ◌≤ℤ◌, ◌++◌, length, All, OnOk};
 ghost use Rattle.std.specs.List.{AllByRecursion};
 ghost use Rattle.state_law.specs.State.{IsListed, point_at};
 ghost use Rattle.front_chain.specs.Front.{state_of};
 ghost use Rattle.rule_match.specs.Near.{IsFarLine};
-ghost use Rattle.mesh_run.specs.Remembered.{AreKept, IsInArea, IsWider};
+ghost use Rattle.mesh_run.specs.Remembered.{AreKept, AreSameRefusals, IsForgottenNear, IsInArea, IsNoted, IsWider};
 
+use super::Application;
 use front_chain::Front;
 use grid_geom::{Bounds, Element, GRID, Point};
-use rule_match::is_out_of_reach;
+use rule_maps::RuleSet;
+use rule_match::{greatest_reach, is_out_of_reach};
 use size_field::Sizes;
+use std::alloc::AllocError as OutOfMemory;
 
 /// The lesser of two coordinates.
 fn lesser(a: &i64, b: &i64) -> i64
@@ -106,4 +109,43 @@ pub fn forget(refused: &mut Vec<u32>, front: &Front, sizes: &Sizes, reach: u64, 
     for line in 0..refused.len() {
         refused[line] = left_of(front, sizes, line as u64, reach, area, refused[line]);
     }
+}
+
+/// Forgets what is remembered of each line whose reach meets the box of the application's elements.
+pub fn forget_near(
+    refused: &mut Vec<u32>,
+    front: &Front,
+    sizes: &Sizes,
+    rules: &RuleSet<'_>,
+    application: &Application,
+)
+    requires { AllByRecursion (λ ns. AllByRecursion
+        (IsListed (length (front.now.points ++ application.now.made))) ns)
+        application.now.elements }
+    ensures { IsForgottenNear sizes.now rules.now (state_of front.now) application.now
+        refused.old.items refused.new.items }
+{
+    let (made, elements) = (application.made.as_slice(), application.elements.as_slice());
+    let area = area_of(front, made, elements);
+    forget(refused, front, sizes, greatest_reach(rules), &area);
+}
+
+/// Makes the table so long that the line has a place in it. What is remembered stays.
+fn lengthen(refused: &mut Vec<u32>, line: u64) -> Result<(), OutOfMemory>
+    ensures same { AreSameRefusals refused.old.items refused.new.items }
+    ensures long { OnOk result (line < length refused.new.items) }
+{
+    while refused.len() as u64 <= line {
+        refused.push(0)?;
+    }
+    Ok(())
+}
+
+/// Remembers that the line has no candidate at classes below the least one.
+pub fn note(refused: &mut Vec<u32>, line: u64, least: u32) -> Result<(), OutOfMemory>
+    ensures { IsNoted refused.old.items refused.new.items line least }
+{
+    lengthen(refused, line)?;
+    refused[line as usize] = least;
+    Ok(())
 }
