@@ -42,3 +42,4 @@ pub mod StillNone
 pub mod HeldAreas
 -- What is left of refusals.
 pub mod Forgotten
+pub mod StillRemembered

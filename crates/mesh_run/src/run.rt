@@ -16,6 +16,7 @@ use super::applying::{copy_of, put};
 use super::ground::Ground;
 use super::left::{points_of, rows_of};
 use super::opening::{number_mesh, opening_of};
+use super::touched::forget_near;
 use super::{Application, Applications, DomainRun, End, FrontRows, OpeningLines, Options, Stepped};
 use front_chain::Front;
 use geom_check::Geometry;
@@ -260,6 +261,8 @@ impl<'a> Run<'a> {
         // the front is as a front is, and the rule one that a reader gives: so the application may be put on it
         let _lines = self.front.lines();
         let _rule = self.rules.get(application.rule).rule();
+        let (front, sizes, rules) = (&self.front, &self.sizes, self.rules);
+        forget_near(&mut self.refused, front, sizes, rules, &application);
         put(&mut self.front, &application);
         self.applications.push_reserved(application);
         Ok(copy)
