@@ -18,7 +18,7 @@ use Rattle.mesh_run.specs.RunState.{RunParts, run_of, setting_by}
 use Rattle.mesh_run.specs.Steps.{RunSetting, IsNext, applied, with_points}
 use Rattle.mesh_run.proofs.GoesOn.{IsPushed, of_front, put_holds}
 use Rattle.mesh_run.proofs.HeldAreas.{Holds}
-use Rattle.mesh_run.proofs.SameState.{AreSame, same_none}
+use Rattle.mesh_run.proofs.Searched.{same_remembered}
 use Rattle.mesh_run.proofs.StillNone.{still_none, stays_same}
 
 -- corners that are in an area are in its box
@@ -66,19 +66,15 @@ still_remembered s b st a before after r m rising h f = record {
         })
         (subst (λ (n : ℕ). HasNone s.sizes st s.rules n class) (sym far.numbered) none))
 
--- what is true of a state is true of one with the same points and the same front
-moved : (s : RunSetting) (refused : List ℕ) (st other : State) → AreSame st other → AreRemembered refused s st → AreRemembered refused s other
-moved s refused st other same h = record { none = λ line class first l. same_none s.sizes s.rules line class st other same (h.none line class first l) }
-
 pub remembers_after : (p : RunParts) (a : Application) (same after : FrontState) (applications : List Application) (before left : List ℕ) → DoesRemember (run_of p) before
     → IsNext (setting_by (run_of p).basis) (run_of p).state a → IsFrontState same → MayBeApplied (state_of same) a → IsPushed p a same after applications
     → IsForgottenNear p.sizes p.rules (state_of same) a before left → DoesRemember (run_of (record p { front = after; applications = applications })) left
 remembers_after p a same after applications before left h next front may pushed f =
     let s = setting_by (run_of p).basis in
-    let here = moved s before (run_of p).state (state_of same) (record { points = sym pushed.equal.points; front = sym pushed.equal.lines }) h.remembered in
+    let here = same_remembered s before (run_of p).state (state_of same) (record { points = sym pushed.equal.points; front = sym pushed.equal.lines }) h.remembered in
     let later = still_remembered s (edges_of same) (state_of same) a before left (of_front same front) may front.rising here f in
     record {
       is_run = put_holds p a same after applications h.is_run next may pushed;
-      remembered = moved s left (applied (state_of same) a) (run_of (record p { front = after; applications = applications })).state
+      remembered = same_remembered s left (applied (state_of same) a) (run_of (record p { front = after; applications = applications })).state
           (record { points = same_points (with_points (state_of same) a.made) a.elements ∙ sym pushed.put.points; front = sym pushed.put.lines }) later;
     }

@@ -5,6 +5,7 @@
 -- AreKept         what is remembered after forgetting: as before, and only of lines whose reach is apart from an area
 -- IsForgottenNear what is remembered after forgetting near an application's elements
 -- IsNoted         one more refusal is remembered; AreSameRefusals, none is
+-- AreSpentBelow   no line has a candidate at a class below one; setting_in, state_in, what is searched
 -- DoesRemember    a run keeps its state, and what it remembers is true
 -- IsApartFrom     an application's elements lie in a box apart from another one
 use Rattle.std.specs.Prelude.{ℕ, ◌≡◌, ◌⊎◌, ◌≤◌, ◌<◌, ◌≤ℤ◌, List, ◌++◌, map, slice_index_or}
@@ -18,6 +19,8 @@ use Rattle.rule_reader.specs.declared.rule.Rule.{Rule}
 use Rattle.rule_match.specs.declared.application.Application.{Application}
 use Rattle.rule_match.specs.Least.{HasNone}
 use Rattle.rule_match.specs.Near.{AreBoxesApart, IsBox, IsCoveredBy, IsFarLine}
+use Rattle.front_chain.specs.Front.{state_of}
+use Rattle.mesh_run.specs.declared.search.Scene.{Scene}
 use Rattle.mesh_run.specs.Steps.{RunSetting}
 use Rattle.mesh_run.specs.RunState.{RunState, IsRunState, IsClassSpent, setting_by}
 
@@ -76,6 +79,13 @@ pub record AreSameRefusals (before after : List ℕ) : Type 0 where
 pub record IsNoted (before after : List ℕ) (line least : ℕ) : Type 0 where
   pub each : (other : ℕ) → (slice_index_or after other 0 ≡ slice_index_or before other 0)
       ⊎ ((other ≡ line) × (slice_index_or after other 0 ≡ least))
+
+-- what a search stands on, and the state that it looks at
+abbrev pub setting_in : Scene → RunSetting
+setting_in s = record { sizes = s.sizes.now; rules = s.rules.now; last = s.last }
+
+abbrev pub state_in : Scene → State
+state_in s = state_of s.front.now
 
 -- the classes below this one have no candidate
 pub record AreSpentBelow (s : RunSetting) (st : State) (class : ℕ) : Type 0 where

@@ -28,6 +28,7 @@ mod mesh;
 mod numbering;
 mod opening;
 mod run;
+mod search;
 mod stepped;
 mod touched;
 mod whole;

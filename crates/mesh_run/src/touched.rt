@@ -1,5 +1,5 @@
 // Which front lines an application may touch, and what is forgotten of them.
-ghost use Rattle.std.specs.Prelude.{◌≡◌, ◌<◌, ◌≤ℤ◌, ◌++◌, length, All, OnOk};
+ghost use Rattle.std.specs.Prelude.{◌≡◌, ◌<◌, ◌≤ℤ◌, ◌++◌, length, slice_index_or, All, IsTrue, OnOk};
 ghost use Rattle.std.specs.List.{AllByRecursion};
 ghost use Rattle.state_law.specs.State.{IsListed, point_at};
 ghost use Rattle.front_chain.specs.Front.{state_of};
@@ -148,4 +148,11 @@ pub fn note(refused: &mut Vec<u32>, line: u64, least: u32) -> Result<(), OutOfMe
     lengthen(refused, line)?;
     refused[line as usize] = least;
     Ok(())
+}
+
+/// Whether it is remembered that the line has no candidate at the class.
+pub fn is_noted(refused: &[u32], class: u32, line: u64) -> bool
+    ensures { IsTrue result → class < slice_index_or refused.now line 0 }
+{
+    (line as usize) < refused.len() && class < refused[line as usize]
 }

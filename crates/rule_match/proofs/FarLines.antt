@@ -14,7 +14,7 @@ use Rattle.size_field.specs.Size.{SizeField}
 use Rattle.rule_maps.specs.Frame.{LocalFrame, IsFrame}
 use Rattle.front_chain.specs.Front.{FrontState, state_of, line_at}
 use Rattle.rule_match.specs.Base.{IsFramed}
-use Rattle.rule_match.specs.Near.{widening, reach_lo, reach_hi, AreBoxesApart, IsBox, IsCoveredBy, IsFarLine}
+use Rattle.rule_match.specs.Near.{widening, reach_lo, reach_hi, AreBoxesApart, IsBox, IsCoveredBy, IsFarLine, IsReachAtMost}
 use Rattle.rule_match.proofs.BaseLines.{line_there}
 
 -- a line with its frame, and how far its reach goes
@@ -74,3 +74,20 @@ one_more_covered rules k greatest reach next r w e rule h l m covered =
     subst (AllByRecursion (IsCoveredBy next)) (sym (take_more rules k r w ∙ ap (λ (x : Rule). take k rules ++ x ∷ []) e))
     (all_append (IsCoveredBy next) (take k rules) (r ∷ []) (all_map (IsCoveredBy greatest) (IsCoveredBy next) (λ x c. record { rule = c.rule; covers = λ v. covers_more x greatest next l (c.covers v) }) (take k rules) covered)
     (record { rule = rule; covers = λ v. covers_more r reach next m h.covers }, tt))
+
+-- ---- how far a line reaches
+same_ends : (x y : ℕ × ℕ) → Some x ≡ Some y → x ≡ y
+same_ends x y e = cc
+
+pub reach_at_most : (sizes : SizeField) (f : FrontState) (line reach : ℕ) (ends : ℕ × ℕ) (frame : LocalFrame) (wide far : ℤ) → IsReaching sizes f line reach ends frame wide → far ≡ wide
+    → (other : ℕ × ℕ) → line_at f.lines line ≡ Some other → IsReachAtMost sizes f.points reach far other.0 other.1
+reach_at_most sizes f line reach ends frame wide far h e other o = subst (λ (s : ℕ × ℕ). IsReachAtMost sizes f.points reach far s.0 s.1) (same_ends ends other (sym h.there ∙ o)) (record {
+  frame = frame;
+  is_frame = h.is_frame;
+  framed = h.framed;
+  positive = subst (λ (z : ℤ). pos 0 ≤ℤ z) h.wide_is h.positive;
+  within = subst (λ (z : ℤ). widening reach frame ≤ℤ z) (sym e) (subst (λ (z : ℤ). z ≤ℤ wide) h.wide_is (level wide));
+})
+  where
+    level : (z : ℤ) → z ≤ℤ z
+    level z = omega (arith, ints)

@@ -43,7 +43,7 @@ pub use found::Found;
 pub use fresh::search_fresh;
 pub use least::best;
 pub use near::NearPoint;
-pub use out_of_reach::{greatest_reach, is_out_of_reach};
+pub use out_of_reach::{Distance, greatest_reach, is_out_of_reach, reach_beyond};
 pub use progress::{Note, Progress};
 pub use squares::{MOST_SIDES, element_badness};
 pub use std::alloc::AllocError as OutOfMemory;
