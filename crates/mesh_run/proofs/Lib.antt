@@ -40,3 +40,8 @@ pub mod Zipped
 pub mod StillNone
 -- Conforming: the states of all domains conform.
 pub mod Conforming
+-- Touched: boxes of elements.
+pub mod HeldAreas
+-- What is left of refusals.
+pub mod Forgotten
+pub mod StillRemembered
