@@ -1,0 +1,10 @@
+//! Which geometry and which rules does the program hold by itself?
+//!
+//! 1. The geometry is n times n unit squares, each a domain of its own. It is accepted for each n from
+//!    1 to 8, so that `check` can't refuse it.
+#![tactic(auto)]
+
+pub mod laws;
+mod squares;
+
+pub use squares::{geometry, rows};
