@@ -10,3 +10,5 @@ pub mod Borders
 pub mod Counted
 pub mod Accepted
 pub mod Filed
+-- The twelve rules.
+pub mod TwelveRules

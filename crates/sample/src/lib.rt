@@ -5,6 +5,9 @@
 #![tactic(auto)]
 
 pub mod laws;
+mod plans;
 mod squares;
+mod twelve;
 
 pub use squares::{geometry, rows};
+pub use twelve::twelve_rules;
