@@ -42,4 +42,5 @@ pub mod StillNone
 pub mod HeldAreas
 -- What is left of refusals.
 pub mod Forgotten
+pub mod Noted
 pub mod StillRemembered
