@@ -5,13 +5,22 @@
 //! begin at 1.
 #![tactic(auto)]
 
+mod coordinate;
+mod indices;
+pub mod laws;
 mod lists;
+mod read;
+mod reader;
+mod refusal;
+mod rows;
 #[cfg(test)]
 mod tests;
 mod write;
 
 use grid_geom::{Element, Points};
 pub use lists::{EdgeRows, MeshElements};
+pub use read::read_vol;
+pub use refusal::{MOST_ROWS, VolRefusal};
 pub use write::write_vol;
 
 /// One piece of a segment of the geometry, as the segment is walked.

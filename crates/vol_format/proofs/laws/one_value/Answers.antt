@@ -1,0 +1,6 @@
+use Rattle.vol_format.proofs.Leads.{outcome}
+use Rattle.vol_format.proofs.Derived.{asked_wanted, one_mesh}
+use Rattle.vol_format.proofs.laws.one_value.Goals as goal
+
+pub returns : goal.returns
+returns c = one_mesh
