@@ -1,5 +1,5 @@
 -- The run of a domain before its first application.
-use Rattle.std.proofs.Common.{◌≡◌, ℕ, ◌+◌, ◌<◌, ◌≤◌, List, [], length, take, refl, sym, ap, ◌∙◌, subst, arith}
+use Rattle.std.proofs.Common.{◌≡◌, ℕ, ◌+◌, ◌<◌, ◌≤◌, List, [], length, take, slice_index_or, refl, sym, ap, ◌∙◌, subst, arith}
 use Rattle.std.specs.List.{All, Contains}
 use Rattle.std.proofs.lemmas.List.Elements.{All-nil, All-contains}
 use Rattle.std.proofs.Math.Seq.{take-length}
@@ -17,6 +17,7 @@ use Rattle.mesh_run.specs.Boundary.{IsNumberTo}
 use Rattle.mesh_run.specs.Opening.{domain_points, opening_lines, front_from}
 use Rattle.mesh_run.specs.Runs.{pieces_by, opening_of, setting_of}
 use Rattle.mesh_run.specs.RunState.{RunParts, IsRunState, AreOptions, elements_made, run_of, opened_run}
+use Rattle.mesh_run.specs.Remembered.{DoesRemember}
 use Rattle.mesh_run.proofs.Begun.{begun, same_front}
 
 -- a domain's number is above 0
@@ -68,6 +69,16 @@ opened_holds g p h options = subst IsRunState (sym (opened_is g p h)) (record {
   where
     level : (n : ℕ) → n ≤ n
     level n = omega arith
+
+-- nothing is remembered at the opening
+pub opened_remembers : (g : PlanarMap) (p : RunParts) (refused : List ℕ) → AreOpened g p → AreOptions p.options → refused ≡ [] → DoesRemember (run_of p) refused
+opened_remembers g p refused h options e = record {
+  is_run = opened_holds g p h options;
+  remembered = record { none = λ line class f l. absurd (nothing class (subst (λ (table : List ℕ). class < slice_index_or table line 0) e l)) };
+}
+  where
+    nothing : (class : ℕ) → class < 0 → ⊥
+    nothing class l = omega arith
 
 -- the parts as they are made: of segments and pieces, and of the points and lines of the opening
 pub record AreSetUp (g : PlanarMap) (p : RunParts) (segments : List Segment) (pieces : List Piece) (points : List Point) : Type 0 where

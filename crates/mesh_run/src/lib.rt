@@ -28,7 +28,9 @@ mod mesh;
 mod numbering;
 mod opening;
 mod run;
+mod search;
 mod stepped;
+mod touched;
 mod whole;
 
 pub use all::run_all;
