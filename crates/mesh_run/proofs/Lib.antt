@@ -44,4 +44,5 @@ pub mod Conforming
 pub mod HeldAreas
 -- What is left of refusals.
 pub mod Forgotten
+pub mod Noted
 pub mod StillRemembered

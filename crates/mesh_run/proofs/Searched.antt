@@ -1,10 +1,15 @@
 -- The search by classes and lines finds the application that comes next, or that nothing applies.
-use Rattle.std.proofs.Common.{◌≡◌, ℕ, ◌+◌, ◌<◌, ◌≤◌, ◌⊎◌, inl, inr, slice_index_or, List, sym, subst, ◌∙◌, arith}
+use Rattle.std.proofs.Common.{◌≡◌, ℕ, ◌+◌, ◌<◌, ◌≤◌, ◌⊎◌, inl, inr, slice_index_or, List, sym, subst, ◌∙◌, arith, IfSome}
+use Rattle.std.specs.List.{Contains}
+use Rattle.grid_geom.specs.declared.Point.{Point}
+use Rattle.size_field.specs.Size.{SizeField}
+use Rattle.rule_match.specs.Near.{IsReachAtMost}
+use Rattle.mesh_run.specs.declared.refusals.Refusals.{Refusals}
 use Rattle.state_law.specs.State.{State}
 use Rattle.rule_match.specs.declared.application.Application.{Application}
 use Rattle.rule_match.specs.Least.{HasNone}
 use Rattle.mesh_run.specs.Steps.{RunSetting, IsNext, NothingApplies}
-use Rattle.mesh_run.specs.Remembered.{AreRemembered, AreSpentBelow, IsNoted}
+use Rattle.mesh_run.specs.Remembered.{AreReaching, AreRemembered, AreSpentBelow, AreTrue, IsNoted}
 use Rattle.mesh_run.specs.RunState.{IsFirstOfClass, IsClassSpent}
 use Rattle.mesh_run.proofs.SameState.{AreSame, same_best, same_none}
 
@@ -78,5 +83,21 @@ pub same_nothing : (s : RunSetting) (st other : State) → AreSame st other → 
 same_nothing s st other same n = record { none = λ class line first l. same_none s.sizes s.rules line class st other same (n.none class line first l) }
 
 -- what is remembered is true of a state with the same points and the same front
-pub same_remembered : (s : RunSetting) (refused : List ℕ) (st other : State) → AreSame st other → AreRemembered refused s st → AreRemembered refused s other
+same_remembered : (s : RunSetting) (refused : List ℕ) (st other : State) → AreSame st other → AreRemembered refused s st → AreRemembered refused s other
 same_remembered s refused st other same h = record { none = λ line class first l. same_none s.sizes s.rules line class st other same (h.none line class first l) }
+
+-- so it is with how far the lines reach, and with all that is remembered
+pub same_reaching : (m : Refusals) (sizes : SizeField) (st other : State) → AreSame st other → other.next ≡ st.next → AreReaching m sizes st → AreReaching m sizes other
+same_reaching m sizes st other same next h = record {
+  given = λ line p. subst (λ (n : ℕ). line < n) (sym next) (h.given line p);
+  within =
+      subst (λ (ps : List Point). IfSome m.widest (λ far. (line : ℕ × ℕ × ℕ) → Contains other.front line → 0 < slice_index_or m.least.items line.0 0 → IsReachAtMost sizes ps m.reach far.steps line.1 line.2)) same.points
+      (subst (λ (front : List (ℕ × ℕ × ℕ)). IfSome m.widest (λ far. (line : ℕ × ℕ × ℕ) → Contains front line → 0 < slice_index_or m.least.items line.0 0 → IsReachAtMost sizes st.points m.reach far.steps line.1 line.2)) same.front h.within);
+}
+
+pub same_true : (s : RunSetting) (m : Refusals) (st other : State) → AreSame st other → other.next ≡ st.next → AreTrue m s st → AreTrue m s other
+same_true s m st other same next h = record {
+  remembered = same_remembered s m.least.items st other same h.remembered;
+  covers = h.covers;
+  reaching = same_reaching m s.sizes st other same next h.reaching;
+}

@@ -5,10 +5,10 @@ ghost use Rattle.rule_match.specs.Best.{IsBest};
 ghost use Rattle.rule_match.specs.Least.{HasNone};
 ghost use Rattle.mesh_run.specs.Steps.{IsNext, NothingApplies};
 ghost use Rattle.mesh_run.specs.RunState.{IsFirstOfClass, IsClassSpent};
-ghost use Rattle.mesh_run.specs.Remembered.{AreRemembered, AreSpentBelow, setting_in, state_in};
+ghost use Rattle.mesh_run.specs.Remembered.{AreTrue, AreSpentBelow, setting_in, state_in};
 
 use super::Application;
-use super::touched::{is_noted, note};
+use super::refusals::{Refusals, is_noted, remember};
 use front_chain::Front;
 use rule_maps::RuleSet;
 use rule_match::best;
@@ -32,7 +32,7 @@ pub struct Scene<'f, 'a> {
 fn search_line<L: Ledger>(
     alloc: Global,
     scene: &Scene<'_, '_>,
-    refused: &mut Vec<u32>,
+    refusals: &mut Refusals,
     class: u32,
     line: u64,
     steps: &mut Steps<L>,
@@ -41,14 +41,14 @@ fn search_line<L: Ledger>(
     requires first_class { 1 ≤ class }
     requires last_class { class ≤ 16 }
     requires below { AreSpentBelow (setting_in scene.now) (state_in scene.now) class }
-    requires remembered { AreRemembered refused.old.items (setting_in scene.now) (state_in scene.now) }
-    ensures remembered { AreRemembered refused.new.items (setting_in scene.now) (state_in scene.now) }
+    requires remembered { AreTrue refusals.old (setting_in scene.now) (state_in scene.now) }
+    ensures remembered { AreTrue refusals.new (setting_in scene.now) (state_in scene.now) }
     ensures least { IfOk result (λ found. IfSome found
         (IsBest scene.now.sizes.now (state_in scene.now) scene.now.rules.now line class)) }
     ensures none { IfOk result (λ found. IfNone found
         (HasNone scene.now.sizes.now (state_in scene.now) scene.now.rules.now line class)) }
 {
-    if is_noted(refused.as_slice(), class, line) {
+    if is_noted(refusals.least.as_slice(), class, line) {
         return Ok(None);
     }
     let (front, sizes) = (scene.front, scene.sizes);
@@ -56,7 +56,7 @@ fn search_line<L: Ledger>(
     if found.is_some() {
         return Ok(found);
     }
-    note(refused, line, class + 1)?;
+    remember(scene, refusals, class, line)?;
     Ok(None)
 }
 
@@ -64,15 +64,15 @@ fn search_line<L: Ledger>(
 fn best_of_class<L: Ledger>(
     alloc: Global,
     scene: &Scene<'_, '_>,
-    refused: &mut Vec<u32>,
+    refusals: &mut Refusals,
     class: u32,
     steps: &mut Steps<L>,
 ) -> Result<Option<Application>, OutOfMemory>
     requires first_class { 1 ≤ class }
     requires last_class { class ≤ 16 }
     requires below { AreSpentBelow (setting_in scene.now) (state_in scene.now) class }
-    requires remembered { AreRemembered refused.old.items (setting_in scene.now) (state_in scene.now) }
-    ensures remembered { AreRemembered refused.new.items (setting_in scene.now) (state_in scene.now) }
+    requires remembered { AreTrue refusals.old (setting_in scene.now) (state_in scene.now) }
+    ensures remembered { AreTrue refusals.new (setting_in scene.now) (state_in scene.now) }
     ensures least { IfOk result (λ found. IfSome found
         (IsFirstOfClass (setting_in scene.now) (state_in scene.now) class)) }
     ensures none { IfOk result (λ found. IfNone found
@@ -82,7 +82,7 @@ fn best_of_class<L: Ledger>(
     let _lines = front.lines();
     let mut next = front.next_line(0);
     while let Some(line) = next {
-        let found = search_line(alloc, scene, refused, class, line, steps)?;
+        let found = search_line(alloc, scene, refusals, class, line, steps)?;
         if found.is_some() {
             return Ok(found);
         }
@@ -95,19 +95,19 @@ fn best_of_class<L: Ledger>(
 pub fn next_in<L: Ledger>(
     alloc: Global,
     scene: &Scene<'_, '_>,
-    refused: &mut Vec<u32>,
+    refusals: &mut Refusals,
     steps: &mut Steps<L>,
 ) -> Result<Option<Application>, OutOfMemory>
     requires last_class { scene.now.last ≤ 16 }
-    requires remembered { AreRemembered refused.old.items (setting_in scene.now) (state_in scene.now) }
-    ensures remembered { AreRemembered refused.new.items (setting_in scene.now) (state_in scene.now) }
+    requires remembered { AreTrue refusals.old (setting_in scene.now) (state_in scene.now) }
+    ensures remembered { AreTrue refusals.new (setting_in scene.now) (state_in scene.now) }
     ensures next { IfOk result (λ found. IfSome found
         (IsNext (setting_in scene.now) (state_in scene.now))) }
     ensures none { IfOk result (λ found. IfNone found
         (NothingApplies (setting_in scene.now) (state_in scene.now))) }
 {
     for class in 1..scene.last + 1 {
-        let found = best_of_class(alloc, scene, refused, class, steps)?;
+        let found = best_of_class(alloc, scene, refusals, class, steps)?;
         if found.is_some() {
             return Ok(found);
         }

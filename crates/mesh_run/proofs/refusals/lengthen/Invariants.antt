@@ -1,6 +1,6 @@
 use Rattle.std.proofs.Common.{◌+◌, ◌-◌, length}
 use Rattle.mesh_run.specs.Remembered.{AreSameRefusals}
-use Rattle.mesh_run.proofs.touched.lengthen.Given as goal
+use Rattle.mesh_run.proofs.refusals.lengthen.Given as goal
 
 abbrev pub invariant-loop-refused : goal.invariant-loop-refused
 invariant-loop-refused l = AreSameRefusals l.initial.refused.items l.refused.items
