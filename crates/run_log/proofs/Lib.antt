@@ -10,7 +10,8 @@ pub mod Loops
 pub mod Steps
 pub mod Rising
 pub mod Count
--- Viewing: the table of lines, gluing sides one after another, the run that is found is the log's.
+-- Viewing: the table of lines, gluing sides one after another, the run that is found is the log's; lines rise, and the least leaves.
 pub mod Kept
 pub mod Sides
 pub mod Viewed
+pub mod Least
