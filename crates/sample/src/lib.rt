@@ -1,0 +1,13 @@
+//! Which geometry and which rules does the program hold by itself?
+//!
+//! 1. The geometry is n times n unit squares, each a domain of its own. It is accepted for each n from
+//!    1 to 8, so that `check` can't refuse it.
+#![tactic(auto)]
+
+pub mod laws;
+mod plans;
+mod squares;
+mod twelve;
+
+pub use squares::{geometry, rows};
+pub use twelve::twelve_rules;
