@@ -1,16 +1,15 @@
 -- The states of a run's domains conform. Of each domain state_law's soundness holds at the opening, with the segments as further edges, and each application keeps it: element after element, as what a run keeps is kept. Then the laws of conforming states speak of each domain, and of each two.
-use Rattle.std.proofs.Common.{◌≡◌, ℕ, zero, suc, ◌+◌, ◌<◌, ◌≤◌, List, [], ◌∷◌, ◌++◌, map, length, take, refl, sym, ap, ◌∙◌, subst, arith, inl, inr, ◌⊎◌, ℤ, pos, ◌≤ℤ◌}
+use Rattle.std.proofs.Common.{◌≡◌, ℕ, zero, suc, ◌<◌, List, [], ◌∷◌, take, refl, sym, ap, subst, arith, inl, inr, ◌⊎◌, ℤ, pos, ◌≤ℤ◌}
 use Rattle.std.specs.Prelude.{◌≢◌}
 use Rattle.std.specs.List.{AllByRecursion, AllZip}
 use Rattle.std.proofs.lemmas.Int.{ints}
 use Rattle.std.proofs.Math.Seq.{take-length}
 use Rattle.std.proofs.lemmas.List.{map-append}
 use Rattle.std.proofs.lemmas.List.Elements.{recursion_from_All}
-use Rattle.grid_geom.specs.declared.Point.{Point}
 use Rattle.grid_geom.specs.declared.Edge.{Edge}
 use Rattle.grid_geom.specs.declared.RatPoint.{RatPoint}
 use Rattle.grid_geom.specs.Plane.{IsRational}
-use Rattle.grid_geom.specs.Closed.{IsEdge, IsOff}
+use Rattle.grid_geom.specs.Closed.{IsOff}
 use Rattle.grid_geom.specs.Sides.{IsOnOpen}
 use Rattle.grid_geom.specs.Winding.{wind}
 use Rattle.geom_check.specs.Accepted.{IsZeroOrOne}
@@ -18,13 +17,11 @@ use Rattle.geom_check.specs.Boundary.{edges_of}
 use Rattle.geom_check.specs.Domains.{domain_numbers, IsDomain}
 use Rattle.geom_check.specs.Geometry.{PlanarMap, IsGeometry}
 use Rattle.geom_check.proofs.DomainNumbers.{numbers_within}
-use Rattle.wind_law.specs.Chains.{back}
 use Rattle.size_field.specs.Boundary.{piece_boundary}
 use Rattle.size_field.proofs.Bounds.{boundaries_apart, pieces_wind}
-use Rattle.size_field.proofs.Regions.{boundary_region, boundaries_separate}
+use Rattle.size_field.proofs.Regions.{boundary_region}
 use Rattle.size_field.proofs.Rows.{segments_untangled}
 use Rattle.state_law.specs.Conforming.{AreNeighbours, IsBoundary, IsMeshPoint, IsSound, IsUsed}
-use Rattle.state_law.specs.Free.{DoEdgesTangle, IsIn}
 use Rattle.state_law.specs.Gluing.{glue, MayBeGlued}
 use Rattle.state_law.specs.Kept.{all_sides}
 use Rattle.state_law.specs.State.{State, corners_of, glued}
@@ -32,7 +29,7 @@ use Rattle.state_law.proofs.Applied.{sound_opened, sound_on}
 use Rattle.state_law.proofs.Conform.{no_side_twice, each_side_once, apart_domains}
 use Rattle.state_law.proofs.Foreign.{foreign_hanging}
 use Rattle.state_law.proofs.Lists.{at_edge}
-use Rattle.state_law.proofs.Numbers.{glued_edges, glued_numbered}
+use Rattle.state_law.proofs.Numbers.{glued_edges}
 use Rattle.admission.specs.Admission.{glued_on, MayFollow}
 use Rattle.rule_reader.specs.declared.rule.Rule.{Rule}
 use Rattle.rule_reader.specs.Normal.{CanPrint}
@@ -40,7 +37,7 @@ use Rattle.rule_match.specs.declared.application.Application.{Application}
 use Rattle.mesh_run.specs.declared.Options.{Options}
 use Rattle.mesh_run.specs.declared.WholeRun.{WholeRun}
 use Rattle.mesh_run.specs.declared.domain_run.DomainRun.{DomainRun}
-use Rattle.mesh_run.specs.Conform.{DomainState, AreConforming, DoSidesDiffer, DoSidesMatch, NoneHangs, domain_state, placed_state, states_at}
+use Rattle.mesh_run.specs.Conform.{DomainState, AreConforming, DoSidesDiffer, DoSidesMatch, NoneHangs, domain_state, states_at}
 use Rattle.mesh_run.specs.Reached.{IsReached, MayBeApplied, elements_at, front_at}
 use Rattle.mesh_run.specs.Runs.{opening_of, pieces_by, setting_of, IsDomainRun, IsWholeRun}
 use Rattle.mesh_run.specs.Steps.{RunSetting, AreNext, applied, state_after, with_points}
