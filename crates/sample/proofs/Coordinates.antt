@@ -80,6 +80,7 @@ length_up s = subst (λ (z : ℤ). 64 ≤ max 1 (min LONGEST (64 * 1 * tens z / 
   where
     from_zero : (s : ℕ) → pos s ≡ pos 0 +ℤ pos s
     from_zero s = omega (arith, ints)
+
     here : (s : ℕ) → 64 ≤ max 1 (min LONGEST (64 * 1 * tens (pos s) / tens (neg_ℤ (pos s))))
     here zero = omega arith
     here (suc s) = long_enough (10 ^ suc s) (omega (arith, unit_positive (suc s)))

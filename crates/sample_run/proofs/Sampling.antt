@@ -33,6 +33,7 @@ unstopped g parts run is = never_stopped g twelve (part_options g.shift parts) r
 pub one_line : (n parts : ℕ) (line other : List ℕ) (end another : End) → IsSampled n parts line end → IsSampled n parts other another → (line ≡ other) × (end ≡ another)
 one_line n parts line other end another a b =
     let same : a.geometry ≡ b.geometry = one_geometry (squares n) a.geometry b.geometry a.is_geometry b.is_geometry in
-    let run : a.run ≡ b.run = one_run b.geometry twelve (part_options b.geometry.shift parts) a.run b.run (subst (λ (g : PlanarMap). IsWholeRun g twelve (part_options g.shift parts) a.run) same a.is_run) b.is_run in
-    (a.summed ∙ ap (λ (g : PlanarMap). summary_line a.run (mesh_of_run a.run g.segments)) same ∙ ap (λ (w : WholeRun). summary_line w (mesh_of_run w b.geometry.segments)) run ∙ sym b.summed,
-    a.ended ∙ ap (λ (w : WholeRun). w.end) run ∙ sym b.ended)
+    let run : a.run ≡ b.run = one_run b.geometry twelve (part_options b.geometry.shift parts) a.run b.run (subst (λ (g : PlanarMap). IsWholeRun g twelve (part_options g.shift parts) a.run) same a.is_run) b.is_run in (
+      a.summed ∙ ap (λ (g : PlanarMap). summary_line a.run (mesh_of_run a.run g.segments)) same ∙ ap (λ (w : WholeRun). summary_line w (mesh_of_run w b.geometry.segments)) run ∙ sym b.summed,
+      a.ended ∙ ap (λ (w : WholeRun). w.end) run ∙ sym b.ended,
+    )

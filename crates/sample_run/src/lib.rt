@@ -22,6 +22,9 @@ use std::thread::Threads;
 
 pub mod laws;
 
+#[cfg(test)]
+mod tests;
+
 /// A whole run: its summary line, and how it ended.
 #[derive(Debug, Drop)]
 pub struct Sampled {

@@ -1,18 +1,11 @@
 -- Each front of a mesh's text goes on to a text.
-use Rattle.std.proofs.Common.{◌≡◌, ℕ, zero, suc, ◌+◌, ◌*◌, ◌≤◌, List, [], ◌∷◌, ◌++◌, Some, refl, sym, ap, ◌∙◌, arith}
+use Rattle.std.proofs.Common.{◌≡◌, ℕ, zero, suc, ◌*◌, ◌≤◌, List, [], ◌∷◌, ◌++◌, Some, refl, sym, ap, ◌∙◌, arith}
 use Rattle.std.specs.Prelude.{ℤ, pos, ◌+ℤ◌, ◌*ℤ◌, neg_ℤ}
-use Rattle.std.specs.Str.Parse.{digits_value}
 use Rattle.std.proofs.Math.IntN.{pos-*ℤ-pos}
-use Rattle.word_scan.specs.declared.decimals.Dec.{Dec}
-use Rattle.word_scan.specs.Numerals.{IsWhole, value_of}
+use Rattle.word_scan.specs.Numerals.{IsWhole}
 use Rattle.word_scan.specs.Decimals.{decimal_of}
-use Rattle.grid_geom.specs.declared.Point.{Point}
-use Rattle.vol_format.specs.declared.EdgeRow.{EdgeRow}
-use Rattle.vol_format.specs.declared.MeshElement.{MeshElement}
-use Rattle.vol_format.specs.declared.Mesh.{Mesh}
-use Rattle.vol_format.specs.declared.refusal.TheConstants.{MOST_ROWS}
-use Rattle.vol_format.specs.Text.{Word, tens, IsPlace, mesh3d, dimension, geomtype, surfaceelements, volumeelements, edgesegmentsgi2, points_word, endmesh}
-use Rattle.vol_format.specs.Reading.{Need, NeedWord, NeedNumber, NeedPoint, NeedCount, NeedPlace, Given, got, Form, Leaf, Ask, ◌>>=◌, element_form, edge_form, point_form, rows_behind, counted_rows, elements_form, edges_form, points_form, ending_form}
+use Rattle.vol_format.specs.Text.{Word, tens, mesh3d, dimension, geomtype, surfaceelements, volumeelements, edgesegmentsgi2, points_word, endmesh}
+use Rattle.vol_format.specs.Reading.{NeedWord, NeedNumber, NeedPoint, NeedCount, NeedPlace, got, Form, Leaf, element_form, edge_form, point_form, rows_behind, counted_rows, elements_form, edges_form, points_form, ending_form}
 use Rattle.vol_format.proofs.Asks.{got_says, says_got}
 use Rattle.vol_format.proofs.Leads.{Good, good_then}
 use Rattle.vol_format.proofs.Meshes.{after_points, after_edges, after_elements, mesh_form}
@@ -88,9 +81,38 @@ good_element k = (w1, 1, one_in k 64 (omega arith), λ w d e. (w, d, again k 1 6
 
 good_edge : (k : ℕ) → Good k edge_form
 unfolding edge_form
-good_edge k =
-    (w0, 0, zero_in k 999999, λ x1 u1 e1. (w0, 0, zero_in k 0, λ x2 u2 e2. (w0, 0, point_in k, λ x3 u3 e3. (w0, 0, point_in k, λ x4 u4 e4. (w0, 0, zero_in k 0, λ x5 u5 e5. (w0, 0, zero_in k 0, λ x6 u6 e6.
-    (w0, 0, zero_in k 64, λ x7 u7 e7. (w0, 0, zero_in k 64, λ x8 u8 e8. (w1, 1, one_in k 4096 (omega arith), λ w s e. (w0, 0, zero_in k 0, λ x9 u9 e9. (w, s, again k 1 4096 w s e, λ xa ua ea. (w0, 0, zero_in k 0, λ xb ub eb. tt))))))))))))
+good_edge k = (
+  w0,
+  0,
+  zero_in k 999999,
+  λ x1 u1 e1. (
+    w0,
+    0,
+    zero_in k 0,
+    λ x2 u2 e2. (
+      w0,
+      0,
+      point_in k,
+      λ x3 u3 e3. (
+        w0,
+        0,
+        point_in k,
+        λ x4 u4 e4. (
+          w0,
+          0,
+          zero_in k 0,
+          λ x5 u5 e5. (
+            w0,
+            0,
+            zero_in k 0,
+            λ x6 u6 e6.
+                (w0, 0, zero_in k 64, λ x7 u7 e7. (w0, 0, zero_in k 64, λ x8 u8 e8. (w1, 1, one_in k 4096 (omega arith), λ w s e. (w0, 0, zero_in k 0, λ x9 u9 e9. (w, s, again k 1 4096 w s e, λ xa ua ea. (w0, 0, zero_in k 0, λ xb ub eb. tt)))))),
+          ),
+        ),
+      ),
+    ),
+  ),
+)
 
 good_point : (k : ℕ) → Good k point_form
 unfolding point_form
