@@ -38,3 +38,11 @@ pub mod OpenedRun
 pub mod Zipped
 -- StillNone: a refusal stays true.
 pub mod StillNone
+-- Conforming: the states of all domains conform.
+pub mod Conforming
+-- Touched: boxes of elements.
+pub mod HeldAreas
+-- What is left of refusals.
+pub mod Forgotten
+pub mod Noted
+pub mod StillRemembered

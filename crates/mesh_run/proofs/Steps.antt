@@ -42,7 +42,7 @@ follow w [] n l m = tt
 follow w (ns ∷ els) n l m =
     (m.0, follow (glued w ns) els (glued_numbered w ns n l.0) l.1 (subst (MayAllBeGlued (map (corners_of w.points) els)) (sym (glued_edges w ns n l.0)) m.1))
 
-reached_glued : (b : List Edge) (w : State) (ns : List ℕ) → IsReached b w → AreListed w.points ns → MayBeGlued (corners_of w.points ns) (front_at w) → IsReached b (glued w ns)
+pub reached_glued : (b : List Edge) (w : State) (ns : List ℕ) → IsReached b w → AreListed w.points ns → MayBeGlued (corners_of w.points ns) (front_at w) → IsReached b (glued w ns)
 reached_glued b w ns r l m = record {
   numbered = glued_numbered w ns r.numbered l;
   on_grid = r.on_grid;
