@@ -27,6 +27,7 @@ mod lists;
 mod mesh;
 mod numbering;
 mod opening;
+mod refusals;
 mod run;
 mod search;
 mod stepped;

@@ -11,6 +11,7 @@ use super::applying::{copy_of, put};
 use super::ground::Ground;
 use super::left::{points_of, rows_of};
 use super::opening::{number_mesh, opening_of};
+use super::refusals::{Refusals, no_refusals};
 use super::search::{Scene, next_in};
 use super::touched::forget_near;
 use super::{Application, Applications, DomainRun, End, FrontRows, OpeningLines, Options, Stepped};
@@ -37,8 +38,7 @@ pub struct Run<'a> {
     lines: OpeningLines,
     front: Front,
     applications: Vec<Application>,
-    // by line number, the least class at which the line may have a candidate, 0 where it isn't known
-    refused: Vec<u32>,
+    refusals: Refusals,
 }
 
 impl<'a> Model for Run<'a> {
@@ -67,7 +67,7 @@ impl<'a> Model for Run<'a> {
       lines = r.lines;
       front = r.front;
       applications = r.applications.items;
-    })) r.refused.items };
+    })) r.refusals };
 }
 
 impl<'a> Run<'a> {
@@ -111,7 +111,7 @@ impl<'a> Run<'a> {
             lines: opening.lines,
             front,
             applications: Vec::new(alloc),
-            refused: Vec::new(alloc),
+            refusals: no_refusals(alloc, ground.rules),
         })
     }
 
@@ -163,7 +163,7 @@ impl<'a> Run<'a> {
             rules: self.rules,
             last: self.options.last,
         };
-        next_in(alloc, &scene, &mut self.refused, steps)
+        next_in(alloc, &scene, &mut self.refusals, steps)
     }
 
     /// Makes the application that comes next, and answers a copy of it. All memory is taken before the
@@ -183,8 +183,7 @@ impl<'a> Run<'a> {
         // the front is as a front is, and the rule one that a reader gives: so the application may be put on it
         let _lines = self.front.lines();
         let _rule = self.rules.get(application.rule).rule();
-        let (front, sizes, rules) = (&self.front, &self.sizes, self.rules);
-        forget_near(&mut self.refused, front, sizes, rules, &application);
+        forget_near(&mut self.refusals, &self.front, &self.sizes, &application);
         put(&mut self.front, &application);
         self.applications.push_reserved(application);
         Ok(copy)

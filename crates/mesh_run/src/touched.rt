@@ -1,18 +1,16 @@
 // Which front lines an application may touch, and what is forgotten of them.
-ghost use Rattle.std.specs.Prelude.{◌≡◌, ◌<◌, ◌≤ℤ◌, ◌++◌, length, slice_index_or, All, IsTrue, OnOk};
+ghost use Rattle.std.specs.Prelude.{◌≡◌, ◌<◌, ◌≤ℤ◌, ◌++◌, length, All, IfSome};
 ghost use Rattle.std.specs.List.{AllByRecursion};
 ghost use Rattle.state_law.specs.State.{IsListed, point_at};
 ghost use Rattle.front_chain.specs.Front.{state_of};
-ghost use Rattle.rule_match.specs.Near.{IsFarLine};
-ghost use Rattle.mesh_run.specs.Remembered.{AreKept, AreSameRefusals, IsForgottenNear, IsInArea, IsNoted, IsWider};
+ghost use Rattle.mesh_run.specs.Remembered.{AreLookedAt, AreLowered, AreReaching, IsAroundBy, IsForgottenNear, IsInArea, IsLookedAt, IsWidenedBy, IsWider};
 
 use super::Application;
+use super::refusals::{Refusals, noted_at};
 use front_chain::Front;
 use grid_geom::{Bounds, Element, GRID, Point};
-use rule_maps::RuleSet;
-use rule_match::{greatest_reach, is_out_of_reach};
+use rule_match::{Distance, is_out_of_reach};
 use size_field::Sizes;
-use std::alloc::AllocError as OutOfMemory;
 
 /// The lesser of two coordinates.
 fn lesser(a: &i64, b: &i64) -> i64
@@ -88,71 +86,110 @@ pub fn area_of(front: &Front, made: &[Point], elements: &[Element]) -> Bounds
     area
 }
 
-/// What is left of a line's refusal: nothing, unless the line's reach is apart from the area.
-fn left_of(front: &Front, sizes: &Sizes, line: u64, reach: u64, area: &Bounds, refused: u32) -> u32
-    ensures same { 0 < result → result ≡ refused }
-    ensures far { 0 < result →
-        IsFarLine sizes.now (state_of front.now) reach area.now.lo area.now.hi line }
-{
-    if refused > 0 && is_out_of_reach(front, sizes, line, reach, area) {
-        refused
-    } else {
-        0
-    }
-}
-
-/// Forgets what is remembered of each line whose reach isn't apart from the area.
-pub fn forget(refused: &mut Vec<u32>, front: &Front, sizes: &Sizes, reach: u64, area: &Bounds)
-    ensures { AreKept sizes.now (state_of front.now) reach area.now
-        refused.old.items refused.new.items }
-{
-    for line in 0..refused.len() {
-        refused[line] = left_of(front, sizes, line as u64, reach, area, refused[line]);
-    }
-}
-
-/// Forgets what is remembered of each line whose reach meets the box of the application's elements.
-pub fn forget_near(
-    refused: &mut Vec<u32>,
+/// Forgets what is remembered of the line, unless its reach is apart from the area, and lowers the number
+/// below which nothing was forgotten.
+fn look_again(
+    least: &mut Vec<u64>,
+    lowest: &mut u64,
     front: &Front,
     sizes: &Sizes,
-    rules: &RuleSet<'_>,
-    application: &Application,
+    line: u64,
+    reach: u64,
+    area: &Bounds,
 )
-    requires { AllByRecursion (λ ns. AllByRecursion
+    ensures { IsLookedAt sizes.now front.now reach area.now line
+        (record { least = least.old.items; lowest = lowest.old })
+        (record { least = least.new.items; lowest = lowest.new }) }
+{
+    if noted_at(least.as_slice(), line) == 0 {
+        return;
+    }
+    if is_out_of_reach(front, sizes, line, reach, area) {
+        return;
+    }
+    least[line as usize] = 0;
+    *lowest = line.min(*lowest);
+}
+
+/// Forgets what is remembered of each line whose box meets the box `around`, unless the line's reach is
+/// apart from the area. Answers a number below which nothing was forgotten.
+fn forget(
+    least: &mut Vec<u64>,
+    front: &Front,
+    sizes: &Sizes,
+    reach: u64,
+    area: &Bounds,
+    around: &Bounds,
+) -> u64
+    ensures { AreLookedAt sizes.now front.now reach area.now around.now
+        least.old.items (record { least = least.new.items; lowest = result }) }
+{
+    let _lines = front.lines();
+    let mut lowest = front.next_number();
+    let mut at = front.first_near(around);
+    while let Some(here) = at {
+        look_again(least, &mut lowest, front, sizes, here.line, reach, area);
+        at = front.next_near(around, &here);
+    }
+    lowest
+}
+
+/// Lowers each number of the table to this one at most.
+fn lower(first: &mut Vec<u64>, most: u64)
+    ensures { AreLowered most first.old.items first.new.items }
+{
+    for class in 0..first.len() {
+        first[class] = first[class].min(most);
+    }
+}
+
+/// The box, widened on each side by the distance, if numbers hold it.
+fn widened_by(area: &Bounds, far: &Distance) -> Option<Bounds>
+    ensures { IfSome result (IsWidenedBy area.now far.now.steps) }
+{
+    let left = area.lo.x.checked_sub(far.steps)?;
+    let below = area.lo.y.checked_sub(far.steps)?;
+    let right = area.hi.x.checked_add(far.steps)?;
+    let above = area.hi.y.checked_add(far.steps)?;
+    Some(Bounds {
+        lo: Point { x: left, y: below },
+        hi: Point { x: right, y: above },
+    })
+}
+
+/// The box round the area that meets the box of each remembered line whose reach meets the area, if one
+/// is known.
+fn around_of(area: &Bounds, widest: &Option<Distance>) -> Option<Bounds>
+    ensures { IfSome result (IsAroundBy area.now widest.now) }
+{
+    match widest {
+        Some(far) => widened_by(area, far),
+        None => None,
+    }
+}
+
+/// Forgets what is remembered of each line whose reach meets the box of the application's elements. Only
+/// lines near it are looked at.
+pub fn forget_near(refusals: &mut Refusals, front: &Front, sizes: &Sizes, application: &Application)
+    requires listed { AllByRecursion (λ ns. AllByRecursion
         (IsListed (length (front.now.points ++ application.now.made))) ns)
         application.now.elements }
-    ensures { IsForgottenNear sizes.now rules.now (state_of front.now) application.now
-        refused.old.items refused.new.items }
+    requires reaching { AreReaching refusals.old sizes.now (state_of front.now) }
+    ensures { IsForgottenNear sizes.now (state_of front.now) application.now
+        refusals.old refusals.new }
 {
+    let _lines = front.lines();
     let (made, elements) = (application.made.as_slice(), application.elements.as_slice());
     let area = area_of(front, made, elements);
-    forget(refused, front, sizes, greatest_reach(rules), &area);
-}
-
-/// Makes the table so long that the line has a place in it. What is remembered stays.
-fn lengthen(refused: &mut Vec<u32>, line: u64) -> Result<(), OutOfMemory>
-    ensures same { AreSameRefusals refused.old.items refused.new.items }
-    ensures long { OnOk result (line < length refused.new.items) }
-{
-    while refused.len() as u64 <= line {
-        refused.push(0)?;
+    let reach = refusals.reach;
+    match around_of(&area, &refusals.widest) {
+        Some(around) => {
+            let lowest = forget(&mut refusals.least, front, sizes, reach, &area, &around);
+            lower(&mut refusals.first, lowest);
+        }
+        None => {
+            refusals.least.clear();
+            refusals.first.clear();
+        }
     }
-    Ok(())
-}
-
-/// Remembers that the line has no candidate at classes below the least one.
-pub fn note(refused: &mut Vec<u32>, line: u64, least: u32) -> Result<(), OutOfMemory>
-    ensures { IsNoted refused.old.items refused.new.items line least }
-{
-    lengthen(refused, line)?;
-    refused[line as usize] = least;
-    Ok(())
-}
-
-/// Whether it is remembered that the line has no candidate at the class.
-pub fn is_noted(refused: &[u32], class: u32, line: u64) -> bool
-    ensures { IsTrue result → class < slice_index_or refused.now line 0 }
-{
-    (line as usize) < refused.len() && class < refused[line as usize]
 }

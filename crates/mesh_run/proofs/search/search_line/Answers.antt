@@ -1,22 +1,12 @@
-use Rattle.std.proofs.Common.{ℕ, ◌<◌, List, slice_index_or, sym, subst, ◌∙◌}
+use Rattle.std.proofs.Common.{sym, ◌∙◌}
 use Rattle.rule_match.specs.Least.{HasNone}
 use Rattle.mesh_run.specs.Remembered.{setting_in, state_in}
 use Rattle.mesh_run.proofs.SameState.{none_there}
-use Rattle.mesh_run.proofs.Searched.{none_up_to, noted_remembered}
+use Rattle.mesh_run.proofs.Searched.{none_up_to}
 use Rattle.mesh_run.proofs.search.search_line.Goals as goal
 
-pub returns-then-is_noted-clause-none : goal.returns-then-is_noted-clause-none
-returns-then-is_noted-clause-none g c =
-    c.requires.remembered.none c.args.line c.args.class c.requires.first_class (subst (λ (xs : List ℕ). c.args.class < slice_index_or xs c.args.line 0) c.as_slice.ensures.value (c.is_noted.ensures c.if-is_noted.true))
-
-pub returns-in_err-note-clause-remembered : goal.returns-in_err-note-clause-remembered
-returns-in_err-note-clause-remembered g c =
+pub remember-requires-clause-none : goal.remember-requires-clause-none
+remember-requires-clause-none g c =
     let s = setting_in c.args.scene.now in let st = state_in c.args.scene.now in
-    let here = none_there (HasNone s.sizes st s.rules c.args.line c.args.class) c.in_ok-found.found (sym c.is_some.ensures ∙ c.if-is_some.false) c.in_ok-found.ensures.none in
-    noted_remembered s st c.args.refused.now.items c.note.new.refused.items c.args.line c.args.class c.requires.remembered c.note.ensures (none_up_to s st c.args.line c.args.class c.requires.below here)
-
-pub returns-clause-remembered : goal.returns-clause-remembered
-returns-clause-remembered g c =
-    let s = setting_in c.args.scene.now in let st = state_in c.args.scene.now in
-    let here = none_there (HasNone s.sizes st s.rules c.args.line c.args.class) c.in_ok-found.found (sym c.is_some.ensures ∙ c.if-is_some.false) c.in_ok-found.ensures.none in
-    noted_remembered s st c.args.refused.now.items c.note.new.refused.items c.args.line c.args.class c.requires.remembered c.note.ensures (none_up_to s st c.args.line c.args.class c.requires.below here)
+    none_up_to s st c.args.line c.args.class c.requires.below
+    (none_there (HasNone s.sizes st s.rules c.args.line c.args.class) c.in_ok-found.found (sym c.is_some.ensures ∙ c.if-is_some.false) c.in_ok-found.ensures.none)

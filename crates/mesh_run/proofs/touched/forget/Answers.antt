@@ -1,19 +1,21 @@
-use Rattle.std.proofs.Common.{refl, ap, ◌∙◌, arith}
-use Rattle.std.proofs.lemmas.List.{get_or_read_under}
-use Rattle.front_chain.specs.Front.{state_of}
-use Rattle.mesh_run.proofs.Forgotten.{one_more_kept, all_kept}
+use Rattle.std.proofs.Common.{subst}
+use Rattle.mesh_run.specs.Remembered.{Lessened}
+use Rattle.rule_match.proofs.Gathered.{gets_shorter}
+use Rattle.mesh_run.proofs.Forgotten.{IsUnderWay, begins, goes_on, all_looked_at}
 use Rattle.mesh_run.proofs.touched.forget.Goals as goal
 
-pub loop-line-init : goal.loop-line-init
-loop-line-init c = record { count = refl; done = λ line b p. absurd (omega (arith, b)); rest = λ line b. refl }
+pub loop-at-init : goal.loop-at-init
+loop-at-init c = begins c.args.sizes.now c.args.front.now c.args.reach c.args.area.now c.args.around.now c.args.least.now.items c.next_number-lowest.result c.first_near-at.result c.next_number-lowest.ensures c.lines-lines.ensures.holds c.first_near-at.ensures.first c.first_near-at.ensures.near
 
-pub loop-line-preserved : goal.loop-line-preserved
-loop-line-preserved c =
-    one_more_kept c.args.sizes.now (state_of c.args.front.now) c.args.reach c.args.area.now c.args.refused.now.items c.loop-line.refused.items c.loop-line.line c.left_of.result
-    (omega (arith, c.loop-line-test.true, c.loop-line.invariant.count, c.loop-line.auto.line-end)) c.loop-line.invariant
-    (λ p. c.left_of.ensures.same p ∙ get_or_read_under c.loop-line.refused.items c.loop-line.line _ c.index.result.now 0 c.index.ensures (omega (arith, c.loop-line-test.true, c.loop-line.invariant.count, c.loop-line.auto.line-end)) refl) c.left_of.ensures.far
+pub loop-at-smaller : goal.loop-at-smaller
+loop-at-smaller c = gets_shorter c.args.front.now c.args.around.now c.loop-at.at c.in-Some.here c.next_near-at.result c.in-Some.is c.lines-lines.ensures.holds c.next_near-at.ensures.next
+
+pub loop-at-preserved : goal.loop-at-preserved
+loop-at-preserved c =
+    let now : Lessened = record { least = c.loop-at.least.items; lowest = c.loop-at.lowest } in
+    goes_on c.args.sizes.now c.args.front.now c.args.reach c.args.area.now c.args.around.now c.args.least.now.items now (record { least = c.look_again.new.least.items; lowest = c.look_again.new.lowest }) c.in-Some.here c.next_near-at.result
+    (subst (IsUnderWay c.args.sizes.now c.args.front.now c.args.reach c.args.area.now c.args.around.now c.args.least.now.items now) c.in-Some.is c.loop-at.invariant)
+    c.look_again.ensures c.next_near-at.ensures.next c.next_near-at.ensures.near
 
 pub returns : goal.returns
-returns c =
-    all_kept c.args.sizes.now (state_of c.args.front.now) c.args.reach c.args.area.now c.args.refused.now.items c.loop-line.refused.items c.loop-line.line
-    (omega (arith, c.loop-line-test.false, c.loop-line.invariant.count)) c.loop-line.invariant
+returns c = all_looked_at c.args.sizes.now c.args.front.now c.args.reach c.args.area.now c.args.around.now c.args.least.now.items (record { least = c.loop-at.least.items; lowest = c.loop-at.lowest }) c.loop-at.at c.in_default.is c.loop-at.invariant
