@@ -16,12 +16,24 @@ use Rattle.geom_check.specs.declared.risers.Passing.{Passing}
 use Rattle.geom_check.specs.declared.limits.TheConstants.{PARTS}
 use Rattle.geom_check.specs.Accepted.{IsZeroOrOne}
 use Rattle.geom_check.specs.Gaps.{middle}
-use Rattle.geom_check.specs.Risers.{one_if}
+use Rattle.geom_check.specs.Risers.{one_if, passes}
 use Rattle.geom_check.specs.RiserOrder.{over, under, IsAt, IsAcross, IsFree, IsWest, IsPassing, IsKey, IsRiserOnGrid, rises, east_of, west_of}
 use Rattle.geom_check.specs.Walk.{DoAgree}
 use Rattle.geom_check.proofs.RiserPlace.{middle_at, middle_k, middle_left, middle_right}
-use Rattle.geom_check.proofs.RiserOrder.{west_or_east}
+use Rattle.geom_check.proofs.RiserOrder.{west_or_east, across}
+use Rattle.geom_check.proofs.StripWinding.{passing_test}
 use Rattle.geom_check.proofs.KeyOrder.{has_key}
+
+-- ---- risers that agree
+-- two that pass a strip, one left of the other at its middle height
+pub agree_in : (low high : ℤ) (r s : Riser) → low <ℤ high → r.east ≡ s.west → passes low high r ≡ true → passes low high s ≡ true → IsWest (low +ℤ high) r s → DoAgree r s
+agree_in low high r s h e p q w = record {
+  label = e;
+  height = low +ℤ high;
+  r_across = across low high r h (passing_test low high r p);
+  s_across = across low high s h (passing_test low high s q);
+  west = w;
+}
 
 -- ---- one order at all heights
 spanned_at : (y : ℤ) (r : Riser) (q : RatPoint) → pos 0 <ℤ q.k → IsAt y q → IsAcross y r → IsSpanned q r.a r.b

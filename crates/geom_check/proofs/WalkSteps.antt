@@ -63,11 +63,11 @@ settled_put risers order changed new last p id h l e s = subst (λ (xs : List �
         beyond : (m : ℕ) {n : ℕ} → n ≤ last → n ≡ m → p < m → ⊥
         beyond m {n} e f g = omega (arith, e, f, g, h)
 
-pub settled_out : (risers : List Riser) (order changed new : List ℕ) (last p : ℕ) → last ≤ p → p < length order → new ≡ changed ++ p ∷ [] → AreSettled risers order changed last → AreSettled risers (remove order p) new p
-settled_out risers order changed new last p h l e s = subst (λ (xs : List ℕ). AreSettled risers (remove order p) xs p) (sym e) (record {
+pub settled_out : (risers : List Riser) (order kept changed new : List ℕ) (last p : ℕ) → last ≤ p → p < length order → kept ≡ remove order p → new ≡ changed ++ p ∷ [] → AreSettled risers order changed last → AreSettled risers kept new p
+settled_out risers order kept changed new last p h l f e s = subst (λ (xs : List ℕ). AreSettled risers xs new p) (sym f) (subst (λ (xs : List ℕ). AreSettled risers (remove order p) xs p) (sym e) (record {
   agree = λ i j k. agree i j k (beside i p);
   before = All-push (λ i. i ≤ p) changed p (λ i d k. let b = s.before i d k in omega (arith, b, h)) (omega arith);
-})
+}))
   where
     long : length (remove order p) + 1 ≡ length order
     long = length-remove order p l

@@ -4,7 +4,7 @@ ghost use Rattle.std.specs.Prelude.{◌≡◌, ◌+◌, ◌*◌, ◌<◌, ◌≤
 ghost use Rattle.geom_check.specs.RiserOrder.{IsRiserOnGrid, IsRising};
 ghost use Rattle.geom_check.specs.Walk.{IsEnd, AreEndsOf, AreRising};
 
-use crate::limits::{KEYS, LEANS, LEAN_PARTS, WIDTH};
+use crate::limits::{KEYS, LEAN_PARTS, LEANS, WIDTH};
 use crate::risers::Riser;
 use crate::strips::{from_left, level};
 use std::alloc::{AllocError as OutOfMemory, Global};

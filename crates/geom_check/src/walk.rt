@@ -49,6 +49,7 @@ fn is_west(strip: &Strip, r: &Riser, s: &Riser) -> bool
 
 /// Whether one domain, or the outside, is east of a riser and west of another, which is right of
 /// it.
+#[tactic(auto, using(crate::proofs::Agreement::agree_in))]
 fn do_agree(strip: &Strip, r: &Riser, s: &Riser) -> bool
     requires strip { IsStripOnGrid strip.now }
     requires r_on { IsRiserOnGrid r.now }
@@ -84,12 +85,7 @@ fn do_agree_at(risers: &[Riser], strip: &Strip, order: &[usize], place: usize) -
 }
 
 /// Whether the new neighbours agree.
-fn do_changed_agree(
-    risers: &[Riser],
-    strip: &Strip,
-    order: &[usize],
-    changed: &[usize],
-) -> bool
+fn do_changed_agree(risers: &[Riser], strip: &Strip, order: &[usize], changed: &[usize]) -> bool
     requires strip { IsStripOnGrid strip.now }
     requires risers { All IsRiserOnGrid risers.now }
     requires order { AreIn risers.now order.now }
