@@ -14,6 +14,7 @@
 -- Seen: lists as the check sees them.
 -- Walks: walks of edge rows, step by step.
 -- OneWalk, OneVerdict: a mesh has one verdict.
+-- RowWinding, Partition, NoSharedSide: elements wind as boundaries do, and share no directed side.
 -- Moves: the tests of an edge row's ends.
 pub mod Prefixes
 pub mod Apart
@@ -30,4 +31,7 @@ pub mod Seen
 pub mod Walks
 pub mod OneWalk
 pub mod OneVerdict
+pub mod RowWinding
+pub mod Partition
+pub mod NoSharedSide
 pub mod Moves

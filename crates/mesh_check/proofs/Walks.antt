@@ -61,7 +61,7 @@ walked_on ps segments done at rows row s h e =
     long n k h e = omega arith
 
 -- ---- where the next segment begins
-two_ends : (g : PlanarMap) (k : ℕ) → IsGeometry g → k < length g.segments → (edge_of g.points (segment_after k g.segments)).a ≢ (edge_of g.points (segment_after k g.segments)).b
+pub two_ends : (g : PlanarMap) (k : ℕ) → IsGeometry g → k < length g.segments → (edge_of g.points (segment_after k g.segments)).a ≢ (edge_of g.points (segment_after k g.segments)).b
 two_ends g k h l =
     two_places g.points (segment_after k g.segments).p (segment_after k g.segments).q h.planar.places ((h.joined k _ l).p_least, (h.joined k _ l).p_greatest) ((h.joined k _ l).q_least, (h.joined k _ l).q_greatest) (h.planar.ends k _ l)
 
