@@ -1,6 +1,6 @@
 -- In a whole mesh no directed side belongs to two elements. Two elements with one side have a common point (law Overlap);
 -- each winds once round it, so its domain's boundary would wind twice, or those of two domains once. Stands on Partition.
-use Rattle.std.proofs.Common.{◌≡◌, ◌≢◌, ◌⊎◌, ℕ, zero, suc, ◌+◌, ◌<◌, ◌≤◌, ◌==◌, nat_eq, Bool, true, false, cond, List, [], ◌∷◌, ◌++◌, length, map, filter, slice_index_or, All, inl, inr, refl, sym, ◌∙◌, ap, subst, arith}
+use Rattle.std.proofs.Common.{◌≡◌, ◌⊎◌, ℕ, zero, suc, ◌<◌, ◌==◌, nat_eq, Bool, true, false, cond, List, [], ◌∷◌, ◌++◌, length, map, filter, slice_index_or, inl, inr, refl, sym, ◌∙◌, ap, subst, arith}
 use lib.IntN.{ℤ, pos, ◌+ℤ◌}
 use lib.Signed.{◌≤ℤ◌}
 use Rattle.std.proofs.lemmas.Int.{ints}
@@ -12,7 +12,7 @@ use Rattle.grid_geom.specs.declared.RatPoint.{RatPoint}
 use Rattle.grid_geom.specs.declared.Edge.{Edge}
 use Rattle.grid_geom.specs.Plane.{IsRational}
 use Rattle.grid_geom.specs.Sides.{IsOnClosed}
-use Rattle.grid_geom.specs.Polygon.{sides, IsStrictlyConvex}
+use Rattle.grid_geom.specs.Polygon.{sides}
 use Rattle.grid_geom.specs.Winding.{wind}
 use Rattle.grid_geom.specs.Closed.{IsEdge, IsOff}
 use Rattle.wind_law.specs.Near.{HaveCommonPoint}
@@ -24,7 +24,7 @@ use Rattle.state_law.proofs.Lists.{all_append, all_first, all_second}
 use Rattle.state_law.proofs.SidesFree.{sides_edges}
 use Rattle.std.proofs.lemmas.List.{get_or_default}
 use Rattle.geom_check.specs.declared.kinds.Segment.{Segment}
-use Rattle.geom_check.specs.Accepted.{IsZeroOrOne, DoOverlap}
+use Rattle.geom_check.specs.Accepted.{IsZeroOrOne}
 use Rattle.geom_check.specs.Boundary.{boundary, edge_of, edges_of}
 use Rattle.geom_check.specs.Geometry.{PlanarMap, IsGeometry}
 use Rattle.vol_format.specs.declared.MeshElement.{MeshElement}

@@ -1,42 +1,35 @@
 -- In a whole mesh the elements of a domain wind round each place as its boundary does, and no directed side belongs to
 -- two elements. Stands on RowWinding and Numbered.
-use Rattle.std.proofs.Common.{◌≡◌, ◌≢◌, ◌⊎◌, ℕ, zero, suc, ◌+◌, ◌-◌, ◌<◌, ◌≤◌, ◌==◌, nat_eq, Bool, true, false, cond, List, [], ◌∷◌, ◌++◌, length, map, filter, slice_index_or, All, inl, inr, refl, sym, ◌∙◌, ap, subst, arith}
+use Rattle.std.proofs.Common.{◌≡◌, ◌⊎◌, ℕ, ◌+◌, ◌<◌, ◌==◌, nat_eq, Bool, true, false, cond, List, [], ◌∷◌, length, map, filter, inl, inr, refl, sym, ◌∙◌, ap, subst, arith}
 use lib.IntN.{ℤ, pos, ◌+ℤ◌, ◌-ℤ◌}
-use lib.Signed.{◌≤ℤ◌}
 use Rattle.std.proofs.lemmas.Int.{ints}
 use Rattle.std.proofs.lemmas.Bool.{cases_order, cases_lt}
-use Rattle.std.specs.List.{AllByRecursion, Contains}
-use Rattle.std.proofs.lemmas.List.{get_or_default}
-use Rattle.std.proofs.lemmas.List.Elements.{recursion_from_All}
+use Rattle.std.specs.List.{AllByRecursion}
 use Rattle.grid_geom.specs.declared.Point.{Point}
 use Rattle.grid_geom.specs.declared.RatPoint.{RatPoint}
 use Rattle.grid_geom.specs.declared.Edge.{Edge}
 use Rattle.grid_geom.specs.Plane.{IsRational}
-use Rattle.grid_geom.specs.Sides.{IsOnClosed}
-use Rattle.grid_geom.specs.Polygon.{sides, IsStrictlyConvex, IsInPolygon}
+use Rattle.grid_geom.specs.Polygon.{sides, IsStrictlyConvex}
 use Rattle.grid_geom.specs.Winding.{wind}
-use Rattle.grid_geom.specs.Closed.{same_point, IsEdge, IsOff}
+use Rattle.grid_geom.specs.Closed.{IsOff}
 use Rattle.wind_law.specs.Chains.{edge, back, times, IsSameChain}
-use Rattle.wind_law.specs.Near.{HaveCommonPoint}
 use Rattle.wind_law.proofs.Additive.{wind_append}
 use Rattle.wind_law.proofs.Polygons.{polygon_inside, polygon_outside}
 use Rattle.wind_law.proofs.SameChain.{same_wind}
-use Rattle.wind_law.proofs.Overlap.{overlap}
-use Rattle.state_law.specs.Net.{net}
 use Rattle.state_law.specs.Kept.{all_sides, IsNoneOrOne}
-use Rattle.state_law.specs.State.{IsListed, point_at, pair_edge, number_sides, corners_of}
+use Rattle.state_law.specs.State.{point_at, pair_edge, number_sides, corners_of}
 use Rattle.state_law.proofs.Numbers.{side_edges}
-use Rattle.state_law.proofs.Counts.{times_none, in_by_times}
+use Rattle.state_law.proofs.Counts.{in_by_times}
 use Rattle.state_law.proofs.KeptOn.{inside_or_not}
-use Rattle.state_law.proofs.Lists.{all_append, all_first, all_second, at_edge}
+use Rattle.state_law.proofs.Lists.{all_append, at_edge}
 use Rattle.geom_check.specs.Boundary.{boundary, with_edge}
-use Rattle.geom_check.specs.Geometry.{PlanarMap, IsGeometry}
+use Rattle.geom_check.specs.Geometry.{PlanarMap}
 use Rattle.vol_format.specs.declared.EdgeRow.{EdgeRow}
 use Rattle.vol_format.specs.declared.MeshElement.{MeshElement}
 use Rattle.vol_format.specs.declared.Mesh.{Mesh}
-use Rattle.mesh_check.specs.Parts.{NamesItsPoints, RowJoins, row_edge, polygons_in, boundary_rows}
+use Rattle.mesh_check.specs.Parts.{NamesItsPoints, row_edge, polygons_in, boundary_rows}
 use Rattle.mesh_check.specs.Walked.{places_of}
-use Rattle.mesh_check.specs.Whole.{IsPair, IsChained, IsWhole, IsTurned}
+use Rattle.mesh_check.specs.Whole.{IsChained, IsWhole}
 use Rattle.mesh_check.specs.Partition.{winds}
 use Rattle.mesh_check.proofs.Numbered.{AreListed, NameListed, JoinListed, IsNumbered, numbered, sides_listed}
 use Rattle.mesh_check.proofs.RowWinding.{walk_wind}

@@ -9,13 +9,13 @@ use Rattle.grid_geom.specs.Plane.{IsRational}
 use Rattle.grid_geom.specs.Sides.{IsOnOpen}
 use Rattle.grid_geom.specs.Winding.{cross, wind}
 use Rattle.wind_law.specs.Chains.{edge, back}
-use Rattle.wind_law.proofs.Additive.{wind_append, wind_cut, wind_back}
+use Rattle.wind_law.proofs.Additive.{wind_cut, wind_back}
 use Rattle.state_law.proofs.Untangled.{open_back}
 use Rattle.geom_check.specs.declared.kinds.Segment.{Segment}
 use Rattle.geom_check.specs.Boundary.{with_edge, boundary, edge_of}
 use Rattle.vol_format.specs.declared.EdgeRow.{EdgeRow}
 use Rattle.mesh_check.specs.Parts.{row_edge, boundary_rows}
-use Rattle.mesh_check.specs.Walked.{Places, IsStep, DoesLead, WalksFirst, DoWalk}
+use Rattle.mesh_check.specs.Walked.{Places, IsStep, DoesLead, DoWalk}
 
 -- ---- what an edge gives to the boundary of a domain
 -- it is on the left of it, on the right

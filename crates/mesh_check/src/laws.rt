@@ -41,7 +41,7 @@ pub fn law_partition()
         IsWhole g m → k < length m.elements → IsRational q →
         IsOff q (sides (corners_of m.points (slice_index_or m.elements k e).corners)) →
         IsZeroOrOne (wind q
-            (sides (corners_of m.points (slice_index_or m.elements k e).corners))) }
+        (sides (corners_of m.points (slice_index_or m.elements k e).corners))) }
     ensures sides { (g : PlanarMap) (m : Mesh) (i k : ℕ) (e : MeshElement) (side : Edge) →
         IsGeometry g → NamesItsPoints m → IsWhole g m → i < k → k < length m.elements →
         Contains (sides (corners_of m.points (slice_index_or m.elements i e).corners)) side →
