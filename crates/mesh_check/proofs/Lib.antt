@@ -7,7 +7,6 @@
 -- Twins: the least two points at one place.
 -- OpenSides: points in open sides.
 -- SliceParts: a slice as its first item and the rest.
--- SideLists: lists of sides, by the code.
 -- SideCounts: how often sides stand in lists.
 -- Numbered: sides by numbers and by places.
 -- Domains: domains are above 0; what the search for a difference answers.
@@ -23,7 +22,6 @@ pub mod SpotOrder
 pub mod Twins
 pub mod OpenSides
 pub mod SliceParts
-pub mod SideLists
 pub mod SideCounts
 pub mod Numbered
 pub mod Domains
