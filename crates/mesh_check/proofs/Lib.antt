@@ -13,6 +13,7 @@
 -- Domains: domains are above 0; what the search for a difference answers.
 -- Seen: lists as the check sees them.
 -- Walks: walks of edge rows, step by step.
+-- OneWalk, OneVerdict: a mesh has one verdict.
 -- Moves: the tests of an edge row's ends.
 pub mod Prefixes
 pub mod Apart
@@ -27,4 +28,6 @@ pub mod Numbered
 pub mod Domains
 pub mod Seen
 pub mod Walks
+pub mod OneWalk
+pub mod OneVerdict
 pub mod Moves

@@ -1,15 +1,15 @@
 -- The states of a run's domains conform. Of each domain state_law's soundness holds at the opening, with the segments as further edges, and each application keeps it: element after element, as what a run keeps is kept. Then the laws of conforming states speak of each domain, and of each two.
-use Rattle.std.proofs.Common.{◌≡◌, ℕ, zero, suc, ◌+◌, ◌<◌, ◌≤◌, List, [], ◌∷◌, ◌++◌, map, length, take, refl, sym, ap, ◌∙◌, subst, arith, inl, inr, ◌⊎◌, ℤ, pos, ◌≤ℤ◌}
+use Rattle.std.proofs.Common.{◌≡◌, ℕ, zero, suc, ◌<◌, List, [], ◌∷◌, take, refl, sym, ap, subst, arith, inl, inr, ◌⊎◌, ℤ, pos, ◌≤ℤ◌}
 use Rattle.std.specs.Prelude.{◌≢◌}
 use Rattle.std.specs.List.{AllByRecursion, AllZip}
 use Rattle.std.proofs.lemmas.Int.{ints}
+use Rattle.std.proofs.Math.Seq.{take-length}
 use Rattle.std.proofs.lemmas.List.{map-append}
 use Rattle.std.proofs.lemmas.List.Elements.{recursion_from_All}
-use Rattle.grid_geom.specs.declared.Point.{Point}
 use Rattle.grid_geom.specs.declared.Edge.{Edge}
 use Rattle.grid_geom.specs.declared.RatPoint.{RatPoint}
 use Rattle.grid_geom.specs.Plane.{IsRational}
-use Rattle.grid_geom.specs.Closed.{IsEdge, IsOff}
+use Rattle.grid_geom.specs.Closed.{IsOff}
 use Rattle.grid_geom.specs.Sides.{IsOnOpen}
 use Rattle.grid_geom.specs.Winding.{wind}
 use Rattle.geom_check.specs.Accepted.{IsZeroOrOne}
@@ -17,13 +17,11 @@ use Rattle.geom_check.specs.Boundary.{edges_of}
 use Rattle.geom_check.specs.Domains.{domain_numbers, IsDomain}
 use Rattle.geom_check.specs.Geometry.{PlanarMap, IsGeometry}
 use Rattle.geom_check.proofs.DomainNumbers.{numbers_within}
-use Rattle.wind_law.specs.Chains.{back}
 use Rattle.size_field.specs.Boundary.{piece_boundary}
 use Rattle.size_field.proofs.Bounds.{boundaries_apart, pieces_wind}
-use Rattle.size_field.proofs.Regions.{boundary_region, boundaries_separate}
+use Rattle.size_field.proofs.Regions.{boundary_region}
 use Rattle.size_field.proofs.Rows.{segments_untangled}
 use Rattle.state_law.specs.Conforming.{AreNeighbours, IsBoundary, IsMeshPoint, IsSound, IsUsed}
-use Rattle.state_law.specs.Free.{DoEdgesTangle, IsIn}
 use Rattle.state_law.specs.Gluing.{glue, MayBeGlued}
 use Rattle.state_law.specs.Kept.{all_sides}
 use Rattle.state_law.specs.State.{State, corners_of, glued}
@@ -31,7 +29,7 @@ use Rattle.state_law.proofs.Applied.{sound_opened, sound_on}
 use Rattle.state_law.proofs.Conform.{no_side_twice, each_side_once, apart_domains}
 use Rattle.state_law.proofs.Foreign.{foreign_hanging}
 use Rattle.state_law.proofs.Lists.{at_edge}
-use Rattle.state_law.proofs.Numbers.{glued_edges, glued_numbered}
+use Rattle.state_law.proofs.Numbers.{glued_edges}
 use Rattle.admission.specs.Admission.{glued_on, MayFollow}
 use Rattle.rule_reader.specs.declared.rule.Rule.{Rule}
 use Rattle.rule_reader.specs.Normal.{CanPrint}
@@ -39,7 +37,7 @@ use Rattle.rule_match.specs.declared.application.Application.{Application}
 use Rattle.mesh_run.specs.declared.Options.{Options}
 use Rattle.mesh_run.specs.declared.WholeRun.{WholeRun}
 use Rattle.mesh_run.specs.declared.domain_run.DomainRun.{DomainRun}
-use Rattle.mesh_run.specs.Conform.{DomainState, AreConforming, DoSidesDiffer, DoSidesMatch, NoneHangs, domain_state, placed_state, states_at}
+use Rattle.mesh_run.specs.Conform.{DomainState, AreConforming, DoSidesDiffer, DoSidesMatch, NoneHangs, domain_state, states_at}
 use Rattle.mesh_run.specs.Reached.{IsReached, MayBeApplied, elements_at, front_at}
 use Rattle.mesh_run.specs.Runs.{opening_of, pieces_by, setting_of, IsDomainRun, IsWholeRun}
 use Rattle.mesh_run.specs.Steps.{RunSetting, AreNext, applied, state_after, with_points}
@@ -50,7 +48,7 @@ use Rattle.mesh_run.proofs.OneRun.{one_domain_run}
 use Rattle.mesh_run.proofs.Steps.{reached_after, reached_glued, reached_opening, reached_with}
 
 -- a state is reached, and sound with the further edges
-abbrev IsSoundAt : List Edge → List Edge → State → Type 0
+abbrev pub IsSoundAt : List Edge → List Edge → State → Type 0
 IsSoundAt b others st = IsSound b others (front_at st) (elements_at st)
 
 -- ---- the opening: the boundary in pieces winds as the one in segments, 0 times or once off the segments
@@ -68,7 +66,7 @@ bounds g options d h above =
     at_most {z} (inl e) = omega (arith, ints)
     at_most {z} (inr e) = omega (arith, ints)
 
-sound_opening : (g : PlanarMap) (options : Options) (d : ℕ) → IsGeometry g → 0 < d → IsSoundAt (piece_boundary d g.segments (pieces_by g options)) (edges_of g.points g.segments) (opening_of g options d)
+pub sound_opening : (g : PlanarMap) (options : Options) (d : ℕ) → IsGeometry g → 0 < d → IsSoundAt (piece_boundary d g.segments (pieces_by g options)) (edges_of g.points g.segments) (opening_of g options d)
 sound_opening g options d h above =
     let b = piece_boundary d g.segments (pieces_by g options) in let others = edges_of g.points g.segments in
     subst (λ (es : List Edge). IsSound b others es []) (sym (front_opens d g.segments (pieces_by g options)))
@@ -101,6 +99,10 @@ sound_all b others s st (a ∷ more) (suc k) r sound can n =
     let may = may_next b s st a r can n.0 in
     sound_all b others s (applied st a) more k (reached_after b st a r may) (sound_after b others st a r sound may) can n.1
 
+pub sound_state : (b others : List Edge) (s : RunSetting) (st : State) (more : List Application) → IsReached b st → IsSoundAt b others st → CanPrint s.rules → AreNext s st more → IsSoundAt b others (state_after st more)
+sound_state b others s st more r sound can n =
+    subst (λ (done : List Application). IsSoundAt b others (state_after st done)) (take-length more) (sound_all b others s st more (length more) r sound can n)
+
 -- ---- two domains: no point is in both, and their pieces don't tangle
 one_of : {z : ℤ} → IsZeroOrOne z → pos 1 ≤ℤ z → z ≡ pos 1
 one_of {z} (inl e) h = omega (arith, ints)
@@ -124,7 +126,7 @@ apart_either : (g : PlanarMap) (options : Options) (c d : ℕ) → IsGeometry g 
 apart_either g options c d h above higher (inl less) q kq off in_c in_d = apart_by g options c d h above less q kq off in_c in_d
 apart_either g options c d h above higher (inr less) q kq off in_c in_d = apart_by g options d c h higher less q kq off in_d in_c
 
-neighbours : (g : PlanarMap) (options : Options) (c d : ℕ) → IsGeometry g → 0 < c → 0 < d → (c < d) ⊎ (d < c) → AreNeighbours (piece_boundary c g.segments (pieces_by g options)) (piece_boundary d g.segments (pieces_by g options)) (edges_of g.points g.segments)
+pub neighbours : (g : PlanarMap) (options : Options) (c d : ℕ) → IsGeometry g → 0 < c → 0 < d → (c < d) ⊎ (d < c) → AreNeighbours (piece_boundary c g.segments (pieces_by g options)) (piece_boundary d g.segments (pieces_by g options)) (edges_of g.points g.segments)
 neighbours g options c d h above higher order = record {
   apart = apart_either g options c d h above higher order;
   pieces = boundaries_apart g options.greatest options.grading c d h;
@@ -132,9 +134,9 @@ neighbours g options c d h above higher order = record {
 
 -- ---- runs
 -- a run of the domain that it names
-record IsRunOf (g : PlanarMap) (rules : List Rule) (options : Options) (r : DomainRun) : Type 0 where
-  above : 0 < r.domain
-  run : IsDomainRun g rules options r.domain r
+pub record IsRunOf (g : PlanarMap) (rules : List Rule) (options : Options) (r : DomainRun) : Type 0 where
+  pub above : 0 < r.domain
+  pub run : IsDomainRun g rules options r.domain r
 
 runs_of : (g : PlanarMap) (rules : List Rule) (options : Options) (ds : List ℕ) (rs : List DomainRun) → AllByRecursion IsDomain ds → AllZip (IsDomainRun g rules options) ds rs → AllByRecursion (IsRunOf g rules options) rs
 runs_of g rules options [] [] above runs = tt
@@ -148,8 +150,11 @@ runs_of g rules options (d ∷ ds) (r ∷ rs) above runs = (
   runs_of g rules options ds rs above.1 runs.1,
 )
 
+pub all_runs : (g : PlanarMap) (rules : List Rule) (options : Options) (w : WholeRun) → IsGeometry g → IsWholeRun g rules options w → AllByRecursion (IsRunOf g rules options) w.domains
+all_runs g rules options w h run = runs_of g rules options (domain_numbers g.segments) w.domains (recursion_from_All IsDomain (domain_numbers g.segments) (numbers_within _ g.segments h.joined)) run.domains
+
 -- a domain's state is sound
-abbrev IsSoundState : PlanarMap → DomainState → Type 0
+abbrev pub IsSoundState : PlanarMap → DomainState → Type 0
 IsSoundState g s = IsSound s.boundary (edges_of g.points g.segments) s.front s.elements
 
 sound_run : (g : PlanarMap) (rules : List Rule) (options : Options) (r : DomainRun) (k : ℕ) → IsGeometry g → CanPrint rules → IsRunOf g rules options r → IsSoundState g (domain_state g options r k)
@@ -164,7 +169,7 @@ sides_match g s sound = record {
   matched = λ e i. each_side_once s.boundary (edges_of g.points g.segments) s.front s.elements e sound.kept sound.bounds i;
 }
 
-none_hangs_within : (g : PlanarMap) (s : DomainState) → IsSoundState g s → NoneHangs s s
+pub none_hangs_within : (g : PlanarMap) (s : DomainState) → IsSoundState g s → NoneHangs s s
 none_hangs_within g s sound v e mesh among =
     at_edge (λ f. ¬ (IsOnOpen v f.a f.b)) e (all_sides s.elements) (sound.unhung.each v (used mesh)).off_sides among
   where
@@ -177,7 +182,7 @@ record ConformsWith (s t : DomainState) : Type 0 where
   differ : s.domain ≢ t.domain → DoSidesDiffer s t
   unhung : NoneHangs s t
 
-in_order : (c d : ℕ) → (c ≡ d) ⊎ ((c < d) ⊎ (d < c))
+pub in_order : (c d : ℕ) → (c ≡ d) ⊎ ((c < d) ⊎ (d < c))
 in_order zero zero = inl refl
 in_order zero (suc d) = inr (inl (omega arith))
 in_order (suc c) zero = inr (inr (omega arith))
@@ -237,7 +242,7 @@ each_matched g rules options chosen (r ∷ rs) h can is =
 
 pub all_conform : (g : PlanarMap) (rules : List Rule) (options : Options) (w : WholeRun) (chosen : ℕ → ℕ) → IsGeometry g → CanPrint rules → IsWholeRun g rules options w → AreConforming (states_at g options chosen w.domains)
 all_conform g rules options w chosen h can run =
-    let runs = runs_of g rules options (domain_numbers g.segments) w.domains (recursion_from_All IsDomain (domain_numbers g.segments) (numbers_within _ g.segments h.joined)) run.domains in
+    let runs = all_runs g rules options w h run in
     record {
       matched = each_matched g rules options chosen w.domains h can runs;
       differ = each_two g rules options chosen (λ s t. s.domain ≢ t.domain → DoSidesDiffer s t) w.domains w.domains (λ r q is iq. (conform g rules options chosen r q h can is iq).differ) runs runs;

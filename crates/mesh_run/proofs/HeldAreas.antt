@@ -1,5 +1,5 @@
 -- Boxes that hold the corners of elements, and what is forgotten of lines near them.
-use Rattle.std.proofs.Common.{◌≡◌, ℕ, ◌+◌, ◌<◌, ◌≤◌, ◌⊎◌, inl, inr, All, List, length, take, slice_index_or, slice_set, sym, ap, ◌∙◌, subst, refl, arith, ℤ, ◌≤ℤ◌}
+use Rattle.std.proofs.Common.{ℕ, ◌+◌, ◌<◌, ◌≤◌, All, List, length, take, slice_index_or, subst, arith, ℤ, ◌≤ℤ◌}
 use Rattle.std.proofs.lemmas.Int.{ints}
 use Rattle.std.proofs.lemmas.List.{get_or-take, length-take-le}
 use Rattle.std.proofs.lemmas.List.Elements.{All-more, All-weaker}

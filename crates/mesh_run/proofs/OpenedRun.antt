@@ -82,6 +82,7 @@ opened_remembers g p m h options e = record {
     remembered = record { none = λ line class f l. absurd (nothing line class l) };
     covers = e.covers;
     reaching = record { given = λ line l. absurd (nothing line 0 l); within = by m.widest };
+    passed = λ class line c l. absurd (empty class line.0 (subst (λ (table : List ℕ). line.0 < slice_index_or table class 0) e.first l));
   };
 }
   where

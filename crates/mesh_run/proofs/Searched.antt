@@ -1,5 +1,5 @@
 -- The search by classes and lines finds the application that comes next, or that nothing applies.
-use Rattle.std.proofs.Common.{◌≡◌, ℕ, ◌+◌, ◌<◌, ◌≤◌, ◌⊎◌, inl, inr, slice_index_or, List, sym, subst, ◌∙◌, arith, IfSome}
+use Rattle.std.proofs.Common.{◌≡◌, ℕ, ◌+◌, ◌<◌, ◌≤◌, ◌⊎◌, inl, inr, slice_index_or, List, sym, ap, subst, ◌∙◌, arith, IfSome}
 use Rattle.std.specs.List.{Contains}
 use Rattle.grid_geom.specs.declared.Point.{Point}
 use Rattle.size_field.specs.Size.{SizeField}
@@ -7,9 +7,10 @@ use Rattle.rule_match.specs.Near.{IsReachAtMost}
 use Rattle.mesh_run.specs.declared.refusals.Refusals.{Refusals}
 use Rattle.state_law.specs.State.{State}
 use Rattle.rule_match.specs.declared.application.Application.{Application}
+use Rattle.rule_match.specs.Best.{IsBest}
 use Rattle.rule_match.specs.Least.{HasNone}
 use Rattle.mesh_run.specs.Steps.{RunSetting, IsNext, NothingApplies}
-use Rattle.mesh_run.specs.Remembered.{AreReaching, AreRemembered, AreSpentBelow, AreTrue, IsNoted}
+use Rattle.mesh_run.specs.Remembered.{ArePassed, AreReaching, AreRemembered, AreSpentBelow, AreTrue, IsNoted}
 use Rattle.mesh_run.specs.RunState.{IsFirstOfClass, IsClassSpent}
 use Rattle.mesh_run.proofs.SameState.{AreSame, same_best, same_none}
 
@@ -100,4 +101,16 @@ same_true s m st other same next h = record {
   remembered = same_remembered s m.least.items st other same h.remembered;
   covers = h.covers;
   reaching = same_reaching m s.sizes st other same next h.reaching;
+  passed = λ class. subst (λ (front : List (ℕ × ℕ × ℕ)). ArePassed front m.least.items class (slice_index_or m.first.items class 0)) same.front (h.passed class);
 }
+
+-- the best of a line is the first of a class, where no line before it has any
+pub first_found : (s : RunSetting) (st : State) (line class : ℕ) (a : Application) → IsBest s.sizes st s.rules line class a → ((n : ℕ) → n < line → HasNone s.sizes st s.rules n class) → IsFirstOfClass s st class a
+first_found s st line class a b before =
+    let same_class : a.class ≡ class = ap (λ (x : Application). x.class) b.gives ∙ b.least.of.same_class in
+    let same_line : a.line ≡ line = ap (λ (x : Application). x.line) b.gives ∙ b.least.of.same_line in
+    record {
+      same_class = same_class;
+      best = subst (λ (n : ℕ). IsBest s.sizes st s.rules n a.class a) (sym same_line) (subst (λ (n : ℕ). IsBest s.sizes st s.rules line n a) (sym same_class) b);
+      least = λ n k. before n (subst (λ (m : ℕ). n < m) same_line k);
+    }

@@ -8,8 +8,6 @@ use Rattle.rule_reader.specs.declared.rule.Rule.{Rule}
 use Rattle.rule_maps.specs.Frame.{LocalFrame}
 use Rattle.size_field.specs.Size.{SizeField}
 use Rattle.state_law.specs.Gluing.{glue_all, MayAllBeGlued}
-use Rattle.state_law.specs.Kept.{IsKept}
-use Rattle.state_law.specs.Saved.{AreInBox}
 use Rattle.state_law.specs.Refusal.{IsFront}
 use Rattle.state_law.specs.Reach.{AreAlikeIn}
 use Rattle.state_law.specs.State.{State, IsListed, IsNumbered, corners_of, front_edges, glued}
@@ -20,7 +18,7 @@ use Rattle.admission.specs.Admission.{glued_on, MayFollow}
 use Rattle.admission.proofs.Order.{same_points}
 use Rattle.rule_match.specs.declared.application.Application.{Application}
 use Rattle.rule_match.specs.Least.{HasNone}
-use Rattle.rule_match.specs.Near.{AreBoxesApart, IsAlikeNear, IsBox, IsCoveredBy, IsStayingLine, reach_lo, reach_hi}
+use Rattle.rule_match.specs.Near.{IsAlikeNear, IsCoveredBy, IsStayingLine, reach_lo, reach_hi}
 use Rattle.rule_match.proofs.FarAway.{alike_after}
 use Rattle.rule_match.proofs.NearBack.{none_later}
 use Rattle.mesh_run.specs.Reached.{IsReached, MayBeApplied, front_at}

@@ -1,5 +1,5 @@
 -- What a run remembers stays true over an application, where what lies near its elements is forgotten.
-use Rattle.std.proofs.Common.{◌≡◌, ℕ, ◌+◌, ◌<◌, ◌≤◌, ◌≤ℤ◌, ◌⊎◌, inl, inr, All, List, [], ◌∷◌, ◌++◌, length, map, slice_index_or, sym, ap, ◌∙◌, subst, arith, Option, None, Some, IfSome, ℤ}
+use Rattle.std.proofs.Common.{◌≡◌, ℕ, ◌<◌, ◌≤◌, ◌≤ℤ◌, ◌⊎◌, inl, inr, List, [], ◌∷◌, ◌++◌, length, map, slice_index_or, sym, ap, ◌∙◌, subst, arith, Option, None, Some, IfSome, ℤ}
 use Rattle.std.specs.List.{AllByRecursion, Contains}
 use Rattle.std.proofs.lemmas.List.Elements.{recursion_from_All}
 use Rattle.grid_geom.specs.declared.Bounds.{Bounds}
@@ -19,7 +19,7 @@ use Rattle.rule_match.specs.Least.{HasNone, IsOf}
 use Rattle.rule_match.specs.Near.{IsCoveredBy, IsFarLine, IsReachAtMost}
 use Rattle.mesh_run.specs.declared.refusals.Refusals.{Refusals}
 use Rattle.mesh_run.specs.Reached.{IsReached, MayBeApplied}
-use Rattle.mesh_run.specs.Remembered.{AreTrue, DoesRemember, IsForgottenNear, IsInArea}
+use Rattle.mesh_run.specs.Remembered.{ArePassed, AreTrue, DoesRemember, IsForgottenNear, IsInArea}
 use Rattle.mesh_run.specs.RunState.{RunParts, run_of, setting_by}
 use Rattle.mesh_run.specs.Steps.{RunSetting, IsNext, applied, with_points}
 use Rattle.mesh_run.proofs.GoesOn.{IsPushed, of_front, put_holds}
@@ -140,6 +140,20 @@ module _ (s : RunSetting) (b : List Edge) (st : State) (a : Application) (before
   all_within None w = tt
   all_within (Some far) w = within_after far w
 
+  -- the lines below the numbers are old ones, of which nothing was forgotten
+  passed_after : (class : ℕ) → ArePassed (applied st a).front after.least.items class (slice_index_or after.first.items class 0)
+  passed_after class line c l = by (old_or_new line c)
+    where
+      less : (n m k : ℕ) → n < m → m ≤ k → n < k
+      less n m k a b = omega arith
+
+      low : line.0 < f.lowest
+      low = less line.0 (slice_index_or after.first.items class 0) f.lowest l (f.lowered.within class)
+
+      by : Contains st.front line ⊎ (st.next ≤ line.0) → class < slice_index_or after.least.items line.0 0
+      by (inl k) = subst (λ (v : ℕ). class < v) (sym (f.below line.0 low)) (h.passed class line k (less line.0 (slice_index_or after.first.items class 0) (slice_index_or before.first.items class 0) l (f.lowered.no_more class)))
+      by (inr k) = absurd (clash line.0 st.next (less line.0 f.lowest st.next low f.old) k)
+
   pub still_true : AreTrue after s (applied st a)
   still_true = record {
     remembered = record { none = none_after };
@@ -149,6 +163,7 @@ module _ (s : RunSetting) (b : List Edge) (st : State) (a : Application) (before
       within = subst (λ (n : ℕ). IfSome after.widest (Within (applied st a) n)) (sym f.reach)
           (subst (λ (o : Option Distance). IfSome o (Within (applied st a) before.reach)) (sym f.widest) (all_within before.widest h.reaching.within));
     };
+    passed = passed_after;
   }
     where
       below : (line next more : ℕ) → line < next → next ≤ more → line < more

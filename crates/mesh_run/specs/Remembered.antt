@@ -4,7 +4,8 @@
 --
 -- AreRemembered   what is remembered of each line is true
 -- AreReaching     and the reach of no remembered line goes further than the widest
--- AreTrue         both; IsEmpty, nothing is remembered
+-- ArePassed       front lines below a number were refused at a class
+-- AreTrue         all of these; IsEmpty, nothing is remembered
 -- IsInArea        a place lies in a closed box; IsWider, a box holds another one; IsWidenedBy, it goes so far beyond it
 -- AreLookedAt     what is remembered after the lines near a box were looked at again
 -- AreKept         what is remembered is as before, and only of lines whose reach is apart from an area
@@ -13,7 +14,7 @@
 -- AreSpentBelow   no line has a candidate at a class below one; setting_in, state_in, what is searched
 -- DoesRemember    a run keeps its state, and what it remembers is true
 -- IsApartFrom     an application's elements lie in a box apart from another one
-use Rattle.std.specs.Prelude.{ℕ, ◌≡◌, ◌⊎◌, ◌≤◌, ◌<◌, ℤ, pos, ◌+ℤ◌, ◌-ℤ◌, ◌≤ℤ◌, true, List, [], ◌++◌, map, slice_index_or, Option, None, Some, IfSome}
+use Rattle.std.specs.Prelude.{ℕ, ◌≡◌, ◌⊎◌, ◌≤◌, ◌<◌, ℤ, ◌+ℤ◌, ◌-ℤ◌, ◌≤ℤ◌, true, List, [], ◌++◌, map, slice_index_or, Option, None, Some, IfSome}
 use Rattle.std.specs.List.{All, AllByRecursion, Contains}
 use Rattle.grid_geom.specs.declared.Bounds.{Bounds}
 use Rattle.grid_geom.specs.declared.Point.{Point}
@@ -44,15 +45,23 @@ pub record AreReaching (m : Refusals) (sizes : SizeField) (st : State) : Type 0 
       → 0 < slice_index_or m.least.items line.0 0
       → IsReachAtMost sizes st.points m.reach far.steps line.1 line.2)
 
+-- it is remembered of each front line below the number that it has no candidate at the class
+abbrev pub ArePassed : List (ℕ × ℕ × ℕ) → List ℕ → ℕ → ℕ → Type 0
+ArePassed front refused class number = (line : ℕ × ℕ × ℕ) → Contains front line
+    → line.0 < number → class < slice_index_or refused line.0 0
+
 -- what is remembered is true, and the reach covers the rules
 pub record AreTrue (m : Refusals) (s : RunSetting) (st : State) : Type 0 where
   pub remembered : AreRemembered m.least.items s st
   pub covers : AllByRecursion (IsCoveredBy m.reach) s.rules
   pub reaching : AreReaching m s.sizes st
+  pub passed : (class : ℕ) →
+      ArePassed st.front m.least.items class (slice_index_or m.first.items class 0)
 
 -- nothing is remembered
 pub record IsEmpty (rules : List Rule) (m : Refusals) : Type 0 where
   pub nothing : m.least.items ≡ []
+  pub first : m.first.items ≡ []
   pub covers : AllByRecursion (IsCoveredBy m.reach) rules
 
 -- as much is remembered of each line
@@ -63,6 +72,10 @@ pub record AreSameRefusals (before after : List ℕ) : Type 0 where
 pub record IsNoted (before after : List ℕ) (line least : ℕ) : Type 0 where
   pub each : (other : ℕ) → (slice_index_or after other 0 ≡ slice_index_or before other 0)
       ⊎ ((other ≡ line) × (slice_index_or after other 0 ≡ least))
+
+-- no less is remembered of any line
+pub record AreNoFewer (before after : List ℕ) : Type 0 where
+  pub each : (line : ℕ) → slice_index_or before line 0 ≤ slice_index_or after line 0
 
 -- the distance is known, and the other one is no less
 abbrev pub IsNoFarther : Option Distance → Distance → Type 0
@@ -106,19 +119,36 @@ IsAroundBy area None around = ⊥
 IsAroundBy area (Some far) around = IsWidenedBy area far.steps around
 
 -- ---- what is forgotten
--- what is remembered of any line is as before or nothing; and where something still is of this one, its reach is apart from the area
-pub record IsLookedAt (sizes : SizeField) (f : FrontState) (n : ℕ) (area : Bounds) (line : ℕ) (before after : List ℕ) : Type 0 where
-  pub same : (other : ℕ) → 0 < slice_index_or after other 0
-      → slice_index_or after other 0 ≡ slice_index_or before other 0
-  pub far : 0 < slice_index_or after line 0
+-- a table of refusals, and a number below which nothing was forgotten
+pub record Lessened : Type 0 where
+  pub least : List ℕ
+  pub lowest : ℕ
+
+-- what is remembered of any line is as before or nothing, below the lowest number it is as before; and where something still is of this
+-- line, its reach is apart from the area
+pub record IsLookedAt (sizes : SizeField) (f : FrontState) (n : ℕ) (area : Bounds) (line : ℕ) (before after : Lessened) : Type 0 where
+  pub same : (other : ℕ) → 0 < slice_index_or after.least other 0
+      → slice_index_or after.least other 0 ≡ slice_index_or before.least other 0
+  pub far : 0 < slice_index_or after.least line 0
       → IsFarLine sizes (state_of f) n area.lo area.hi line
+  pub lower : after.lowest ≤ before.lowest
+  pub below : (other : ℕ) → other < after.lowest
+      → slice_index_or after.least other 0 ≡ slice_index_or before.least other 0
 
 -- so it is of each line near a box
-pub record AreLookedAt (sizes : SizeField) (f : FrontState) (n : ℕ) (area around : Bounds) (before after : List ℕ) : Type 0 where
-  pub same : (other : ℕ) → 0 < slice_index_or after other 0
-      → slice_index_or after other 0 ≡ slice_index_or before other 0
-  pub far : (line : ℕ) → is_near f around line ≡ true → 0 < slice_index_or after line 0
+pub record AreLookedAt (sizes : SizeField) (f : FrontState) (n : ℕ) (area around : Bounds) (before : List ℕ) (after : Lessened) : Type 0 where
+  pub same : (other : ℕ) → 0 < slice_index_or after.least other 0
+      → slice_index_or after.least other 0 ≡ slice_index_or before other 0
+  pub far : (line : ℕ) → is_near f around line ≡ true → 0 < slice_index_or after.least line 0
       → IsFarLine sizes (state_of f) n area.lo area.hi line
+  pub lower : after.lowest ≤ f.next
+  pub below : (other : ℕ) → other < after.lowest
+      → slice_index_or after.least other 0 ≡ slice_index_or before other 0
+
+-- no number is greater than before, nor than this one
+pub record AreLowered (number : ℕ) (before after : List ℕ) : Type 0 where
+  pub no_more : (class : ℕ) → slice_index_or after class 0 ≤ slice_index_or before class 0
+  pub within : (class : ℕ) → slice_index_or after class 0 ≤ number
 
 -- what is remembered of any line is as before or nothing; and the reach of each front line of which something is remembered is apart from the area
 pub record AreKept (sizes : SizeField) (st : State) (n : ℕ) (area : Bounds) (before after : List ℕ) : Type 0 where
@@ -132,6 +162,12 @@ pub record IsForgottenNear (sizes : SizeField) (st : State) (a : Application) (b
   pub area : Bounds
   pub holds : All (λ ns. All (λ n. IsInArea area (point_at (st.points ++ a.made) n)) ns) a.elements
   pub kept : AreKept sizes st before.reach area before.least.items after.least.items
+  -- below a number nothing is forgotten, and no class's passed lines go beyond it, nor beyond before
+  pub lowest : ℕ
+  pub old : lowest ≤ st.next
+  pub below : (line : ℕ) → line < lowest
+      → slice_index_or after.least.items line 0 ≡ slice_index_or before.least.items line 0
+  pub lowered : AreLowered lowest before.first.items after.first.items
   pub reach : after.reach ≡ before.reach
   pub widest : after.widest ≡ before.widest
 

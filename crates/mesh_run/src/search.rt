@@ -1,14 +1,13 @@
 // The search for the application that comes next, by classes and lines.
-ghost use Rattle.std.specs.Prelude.{◌≤◌, IsSome, IfOk, IfSome, IfNone};
+ghost use Rattle.std.specs.Prelude.{◌<◌, ◌≤◌, slice_index_or, IsSome, IfOk, IfSome, IfNone};
 ghost use Rattle.front_chain.specs.Front.{line_at};
 ghost use Rattle.rule_match.specs.Best.{IsBest};
-ghost use Rattle.rule_match.specs.Least.{HasNone};
 ghost use Rattle.mesh_run.specs.Steps.{IsNext, NothingApplies};
 ghost use Rattle.mesh_run.specs.RunState.{IsFirstOfClass, IsClassSpent};
-ghost use Rattle.mesh_run.specs.Remembered.{AreTrue, AreSpentBelow, setting_in, state_in};
+ghost use Rattle.mesh_run.specs.Remembered.{AreNoFewer, AreTrue, AreSpentBelow, setting_in, state_in};
 
 use super::Application;
-use super::refusals::{Refusals, is_noted, remember};
+use super::refusals::{Refusals, noted_at, pass, remember};
 use front_chain::Front;
 use rule_maps::RuleSet;
 use rule_match::best;
@@ -45,10 +44,11 @@ fn search_line<L: Ledger>(
     ensures remembered { AreTrue refusals.new (setting_in scene.now) (state_in scene.now) }
     ensures least { IfOk result (λ found. IfSome found
         (IsBest scene.now.sizes.now (state_in scene.now) scene.now.rules.now line class)) }
-    ensures none { IfOk result (λ found. IfNone found
-        (HasNone scene.now.sizes.now (state_in scene.now) scene.now.rules.now line class)) }
+    ensures noted { IfOk result (λ found. IfNone found
+        (class < slice_index_or refusals.new.least.items line 0)) }
+    ensures no_fewer { AreNoFewer refusals.old.least.items refusals.new.least.items }
 {
-    if is_noted(refusals.least.as_slice(), class, line) {
+    if (class as u64) < noted_at(refusals.least.as_slice(), line) {
         return Ok(None);
     }
     let (front, sizes) = (scene.front, scene.sizes);
@@ -80,14 +80,17 @@ fn best_of_class<L: Ledger>(
 {
     let front = scene.front;
     let _lines = front.lines();
-    let mut next = front.next_line(0);
+    let passed = noted_at(refusals.first.as_slice(), class as u64);
+    let mut next = front.next_line(passed.saturating_sub(1));
     while let Some(line) = next {
         let found = search_line(alloc, scene, refusals, class, line, steps)?;
         if found.is_some() {
+            pass(scene, refusals, class, line)?;
             return Ok(found);
         }
         next = front.next_line(line);
     }
+    pass(scene, refusals, class, front.next_number())?;
     Ok(None)
 }
 

@@ -3,11 +3,10 @@ ghost use Rattle.std.specs.Prelude.{◌≡◌, ◌<◌, ◌≤ℤ◌, ◌++◌, 
 ghost use Rattle.std.specs.List.{AllByRecursion};
 ghost use Rattle.state_law.specs.State.{IsListed, point_at};
 ghost use Rattle.front_chain.specs.Front.{state_of};
-ghost use Rattle.rule_match.specs.Near.{IsFarLine};
-ghost use Rattle.mesh_run.specs.Remembered.{AreLookedAt, AreReaching, IsAroundBy, IsForgottenNear, IsInArea, IsLookedAt, IsWidenedBy, IsWider};
+ghost use Rattle.mesh_run.specs.Remembered.{AreLookedAt, AreLowered, AreReaching, IsAroundBy, IsForgottenNear, IsInArea, IsLookedAt, IsWidenedBy, IsWider};
 
 use super::Application;
-use super::refusals::Refusals;
+use super::refusals::{Refusals, noted_at};
 use front_chain::Front;
 use grid_geom::{Bounds, Element, GRID, Point};
 use rule_match::{Distance, is_out_of_reach};
@@ -87,22 +86,11 @@ pub fn area_of(front: &Front, made: &[Point], elements: &[Element]) -> Bounds
     area
 }
 
-/// What is left of a line's refusal: nothing, unless the line's reach is apart from the area.
-fn left_of(front: &Front, sizes: &Sizes, line: u64, reach: u64, area: &Bounds, refused: u32) -> u32
-    ensures same { 0 < result → result ≡ refused }
-    ensures far { 0 < result →
-        IsFarLine sizes.now (state_of front.now) reach area.now.lo area.now.hi line }
-{
-    if refused > 0 && is_out_of_reach(front, sizes, line, reach, area) {
-        refused
-    } else {
-        0
-    }
-}
-
-/// Forgets what is remembered of the line, unless its reach is apart from the area.
+/// Forgets what is remembered of the line, unless its reach is apart from the area, and lowers the number
+/// below which nothing was forgotten.
 fn look_again(
-    least: &mut Vec<u32>,
+    least: &mut Vec<u64>,
+    lowest: &mut u64,
     front: &Front,
     sizes: &Sizes,
     line: u64,
@@ -110,32 +98,48 @@ fn look_again(
     area: &Bounds,
 )
     ensures { IsLookedAt sizes.now front.now reach area.now line
-        least.old.items least.new.items }
+        (record { least = least.old.items; lowest = lowest.old })
+        (record { least = least.new.items; lowest = lowest.new }) }
 {
-    if (line as usize) < least.len() {
-        let refused = least[line as usize];
-        least[line as usize] = left_of(front, sizes, line, reach, area, refused);
+    if noted_at(least.as_slice(), line) == 0 {
+        return;
     }
+    if is_out_of_reach(front, sizes, line, reach, area) {
+        return;
+    }
+    least[line as usize] = 0;
+    *lowest = line.min(*lowest);
 }
 
 /// Forgets what is remembered of each line whose box meets the box `around`, unless the line's reach is
-/// apart from the area.
+/// apart from the area. Answers a number below which nothing was forgotten.
 fn forget(
-    least: &mut Vec<u32>,
+    least: &mut Vec<u64>,
     front: &Front,
     sizes: &Sizes,
     reach: u64,
     area: &Bounds,
     around: &Bounds,
-)
+) -> u64
     ensures { AreLookedAt sizes.now front.now reach area.now around.now
-        least.old.items least.new.items }
+        least.old.items (record { least = least.new.items; lowest = result }) }
 {
     let _lines = front.lines();
+    let mut lowest = front.next_number();
     let mut at = front.first_near(around);
     while let Some(here) = at {
-        look_again(least, front, sizes, here.line, reach, area);
+        look_again(least, &mut lowest, front, sizes, here.line, reach, area);
         at = front.next_near(around, &here);
+    }
+    lowest
+}
+
+/// Lowers each number of the table to this one at most.
+fn lower(first: &mut Vec<u64>, most: u64)
+    ensures { AreLowered most first.old.items first.new.items }
+{
+    for class in 0..first.len() {
+        first[class] = first[class].min(most);
     }
 }
 
@@ -179,7 +183,13 @@ pub fn forget_near(refusals: &mut Refusals, front: &Front, sizes: &Sizes, applic
     let area = area_of(front, made, elements);
     let reach = refusals.reach;
     match around_of(&area, &refusals.widest) {
-        Some(around) => forget(&mut refusals.least, front, sizes, reach, &area, &around),
-        None => refusals.least.clear(),
+        Some(around) => {
+            let lowest = forget(&mut refusals.least, front, sizes, reach, &area, &around);
+            lower(&mut refusals.first, lowest);
+        }
+        None => {
+            refusals.least.clear();
+            refusals.first.clear();
+        }
     }
 }

@@ -1,10 +1,10 @@
 //! Laws of the grammar of logs, over the definitions alone.
 
-ghost use Rattle.std.specs.Prelude.{◌≡◌, ◌⊎◌, List};
+ghost use Rattle.std.specs.Prelude.{◌≡◌, ◌⊎◌, ◌<◌, ◌++◌, ℕ, suc, List, length, take};
 ghost use Rattle.run_log.specs.declared.log.Log.{Log};
 ghost use Rattle.run_log.specs.declared.refusal.LogRefusal.{LogRefusal};
 ghost use Rattle.run_log.specs.Form.{Word};
-ghost use Rattle.run_log.specs.Grammar.{Reads, Refuses};
+ghost use Rattle.run_log.specs.Grammar.{word_of, Reads, Refuses};
 
 /// No list of words says two things.
 pub fn one_value()
@@ -19,4 +19,12 @@ pub fn one_refusal()
         → Reads words said → ¬ Refuses words e }
     ensures each { (words : List Word)
         → ((said : Log) × Reads words said) ⊎ ((e : LogRefusal) × Refuses words e) }
+{}
+
+/// A refusal names a word: with it no log goes on, whatever follows; or it names the one behind the last,
+/// where the text ends too early.
+pub fn first_fault()
+    ensures { (words : List Word) (e : LogRefusal) → Refuses words e → (k : ℕ)
+        × (word_of e ≡ suc k) × (((k < length words) × ((rest : List Word) (said : Log)
+        → ¬ Reads (take (suc k) words ++ rest) said)) ⊎ (k ≡ length words)) }
 {}

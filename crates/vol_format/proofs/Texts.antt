@@ -24,13 +24,13 @@ w2 = 50 ∷ []
 abbrev w3 : Word
 w3 = 51 ∷ []
 
-whole0 : IsWhole w0
+pub whole0 : IsWhole w0
 whole0 = record { digits = refl; some = omega arith; few = omega arith }
 
 whole1 : IsWhole w1
 whole1 = record { digits = refl; some = omega arith; few = omega arith }
 
-whole2 : IsWhole w2
+pub whole2 : IsWhole w2
 whole2 = record { digits = refl; some = omega arith; few = omega arith }
 
 whole3 : IsWhole w3
@@ -58,14 +58,14 @@ count_in k = says_got k NeedCount w0 0 (whole0, refl) (omega arith)
 again : (k least greatest : ℕ) (w : Word) (n : ℕ) → got k (NeedNumber least greatest) w ≡ Some n → got k (NeedNumber n n) w ≡ Some n
 again k least greatest w n e = says_got k (NeedNumber n n) w n (got_says k (NeedNumber least greatest) w n e).0 (omega arith, omega arith)
 
-nought_read : decimal_of w0 ≡ Some (record { digits = pos 0; scale = pos 0 })
+pub nought_read : decimal_of w0 ≡ Some (record { digits = pos 0; scale = pos 0 })
 unfolding decimal_of
 nought_read = refl
 
-nought_times : (t : ℕ) → pos 0 *ℤ pos t ≡ pos 0
+pub nought_times : (t : ℕ) → pos 0 *ℤ pos t ≡ pos 0
 nought_times t = let none : 0 * t ≡ 0 = omega arith in pos-*ℤ-pos 0 t ∙ ap pos none
 
-place_in : (k greatest : ℕ) → got k (NeedPlace greatest) w0 ≡ Some (pos 0)
+pub place_in : (k greatest : ℕ) → got k (NeedPlace greatest) w0 ≡ Some (pos 0)
 place_in k greatest =
     let z = pos 0 +ℤ pos k in
     says_got k (NeedPlace greatest) w0 (pos 0) (record { digits = pos 0; scale = pos 0 }, nought_read, nought_times (tens z) ∙ sym (nought_times (15625 * tens (neg_ℤ z)))) (omega arith)

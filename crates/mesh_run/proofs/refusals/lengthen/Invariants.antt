@@ -2,8 +2,8 @@ use Rattle.std.proofs.Common.{◌+◌, ◌-◌, length}
 use Rattle.mesh_run.specs.Remembered.{AreSameRefusals}
 use Rattle.mesh_run.proofs.refusals.lengthen.Given as goal
 
-abbrev pub invariant-loop-refused : goal.invariant-loop-refused
-invariant-loop-refused l = AreSameRefusals l.initial.refused.items l.refused.items
+abbrev pub invariant-loop-table : goal.invariant-loop-table
+invariant-loop-table l = AreSameRefusals l.initial.table.items l.table.items
 
-abbrev pub decreases-loop-refused : goal.decreases-loop-refused
-decreases-loop-refused l = l.line + 1 - length l.refused.items
+abbrev pub decreases-loop-table : goal.decreases-loop-table
+decreases-loop-table l = l.place + 1 - length l.table.items

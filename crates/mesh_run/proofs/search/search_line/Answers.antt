@@ -1,14 +1,9 @@
-use Rattle.std.proofs.Common.{ℕ, ◌<◌, List, slice_index_or, sym, subst, ◌∙◌}
+use Rattle.std.proofs.Common.{sym, ◌∙◌}
 use Rattle.rule_match.specs.Least.{HasNone}
 use Rattle.mesh_run.specs.Remembered.{setting_in, state_in}
 use Rattle.mesh_run.proofs.SameState.{none_there}
 use Rattle.mesh_run.proofs.Searched.{none_up_to}
 use Rattle.mesh_run.proofs.search.search_line.Goals as goal
-
-pub returns-then-is_noted-clause-none : goal.returns-then-is_noted-clause-none
-returns-then-is_noted-clause-none g c =
-    c.requires.remembered.remembered.none c.args.line c.args.class c.requires.first_class
-    (subst (λ (xs : List ℕ). c.args.class < slice_index_or xs c.args.line 0) c.as_slice.ensures.value (c.is_noted.ensures c.if-is_noted.true))
 
 pub remember-requires-clause-none : goal.remember-requires-clause-none
 remember-requires-clause-none g c =

@@ -1,5 +1,4 @@
-use Rattle.std.proofs.Common.{◌++◌, subst, sym, arith}
-use Rattle.grid_geom.specs.declared.Point.{Point}
+use Rattle.std.proofs.Common.{◌++◌, subst, arith}
 use Rattle.state_law.specs.State.{point_at}
 use Rattle.mesh_run.specs.Remembered.{IsInArea}
 use Rattle.mesh_run.proofs.HeldAreas.{wider_on, one_more_held, all_taken}

@@ -1,4 +1,4 @@
-use Rattle.std.proofs.Common.{sym, subst}
+use Rattle.std.proofs.Common.{subst}
 use Rattle.mesh_run.specs.Mesh.{NamesItsPoints}
 use Rattle.mesh_run.specs.RunState.{RunState, domain_run}
 use Rattle.mesh_run.proofs.run.Run.into_domain_run.Goals as goal

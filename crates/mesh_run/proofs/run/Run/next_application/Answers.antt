@@ -1,7 +1,7 @@
 use Rattle.std.proofs.Common.{refl, subst, IfOk, IfSome, IfNone}
 use Rattle.front_chain.specs.Front.{state_of}
 use Rattle.rule_match.specs.declared.application.Application.{Application}
-use Rattle.mesh_run.specs.RunState.{RunState, setting_by, run_of}
+use Rattle.mesh_run.specs.RunState.{RunState, setting_by}
 use Rattle.mesh_run.specs.Steps.{RunSetting, IsNext, NothingApplies}
 use Rattle.mesh_run.proofs.SameState.{of_found, of_none}
 use Rattle.mesh_run.proofs.Searched.{same_next, same_nothing, same_true}
