@@ -15,8 +15,8 @@ use Rattle.geom_check.specs.RiserOrder.{IsAcross, IsWest, IsSound, far}
 use Rattle.geom_check.specs.Risers.{winding_of}
 use Rattle.geom_check.specs.declared.limits.TheConstants.{KEYS}
 
--- the same domain, or the outside, is east of r and west of s, and at some height that both cross r is left of s. By then it is
--- so at each such height, since they don't cross each other
+-- the same domain, or the outside, is east of r and west of s, and at some height that both cross r is left of s. Then it is so
+-- at each such height, where they don't cross each other
 pub record DoAgree (r s : Riser) : Type 0 where
   pub label : r.east ≡ s.west
   pub height : ℤ
@@ -26,7 +26,12 @@ pub record DoAgree (r s : Riser) : Type 0 where
 
 -- the riser at a place of the list
 abbrev pub riser_at : List Riser → ℕ → Riser
-riser_at risers id = slice_index_or risers id (record { a = record { x = pos 0; y = pos 0 }; b = record { x = pos 0; y = pos 0 }; west = 0; east = 0 })
+riser_at risers id = slice_index_or risers id (record {
+  a = record { x = pos 0; y = pos 0 };
+  b = record { x = pos 0; y = pos 0 };
+  west = 0;
+  east = 0;
+})
 
 -- an event is the lower or the upper end of a riser: its key is among those of the end's level
 pub record IsEnd (r : Riser) (e : Event) : Type 0 where
@@ -68,7 +73,8 @@ AreIn risers order = All (λ id. id < length risers) order
 
 -- of an order, the neighbours left and right of a place agree
 abbrev pub DoAgreeAt : List Riser → List ℕ → ℕ → Type 0
-DoAgreeAt risers order i = DoAgree (riser_at risers (slice_index_or order (i - 1) 0)) (riser_at risers (slice_index_or order i 0))
+DoAgreeAt risers order i = DoAgree (riser_at risers (slice_index_or order (i - 1) 0))
+    (riser_at risers (slice_index_or order i 0))
 
 -- each two neighbours of an order agree
 abbrev pub AreNeighbours : List Riser → List ℕ → Type 0
@@ -86,7 +92,8 @@ pub record IsChain (risers : List Riser) (order : List ℕ) : Type 0 where
 -- after the first events an order has the risers that have begun and not ended, each once
 pub record IsWalking (risers : List Riser) (events : List Event) (next : ℕ) (order : List ℕ) : Type 0 where
   pub within : AreIn risers order
-  pub counted : (f : ℕ → ℕ) → sum_by f order + sum_by (ended f) (take next events) ≡ sum_by (begun f) (take next events)
+  pub counted : (f : ℕ → ℕ) → sum_by f order + sum_by (ended f) (take next events)
+      ≡ sum_by (begun f) (take next events)
 
 -- a riser is put in, is taken out
 pub record IsPutIn (id : ℕ) (old new : List ℕ) : Type 0 where
@@ -109,10 +116,11 @@ pub record AreSettled (risers : List Riser) (order changed : List ℕ) (last : �
 pub record IsUpTo (events : List Event) (next level : ℕ) : Type 0 where
   pub in_list : next ≤ length events
   pub reached : (i : ℕ) (d : Event) → i < next → (slice_index_or events i d).level ≤ level
-  pub beyond : (i : ℕ) (d : Event) → next ≤ i → i < length events → level < (slice_index_or events i d).level
+  pub beyond : (i : ℕ) (d : Event) → next ≤ i → i < length events
+      → level < (slice_index_or events i d).level
 
 -- whatever domains are chosen, where they wind round no place far to the left, they wind round each place of the strip
 -- once or not at all
 abbrev pub IsSoundFor : List Riser → ℤ → ℤ → Type 0
-IsSoundFor risers low high = (chosen : ℕ → Bool) → chosen 0 ≡ false → winding_of chosen (far (low +ℤ high)) risers ≡ pos 0
-    → IsSound low high chosen risers
+IsSoundFor risers low high = (chosen : ℕ → Bool) → chosen 0 ≡ false
+    → winding_of chosen (far (low +ℤ high)) risers ≡ pos 0 → IsSound low high chosen risers

@@ -1,5 +1,5 @@
-// The ends of risers as the events of a walk: rising, at one height from left to right, and at one point upper ends before
-// lower ones, each from left to right.
+// The ends of risers as the events of a walk: rising, at one height from left to right, and at one
+// point upper ends before lower ones, each from left to right.
 ghost use Rattle.std.specs.Prelude.{◌≡◌, ◌+◌, ◌*◌, ◌<◌, ◌≤◌, true, false, length, All, IfOk, pos};
 ghost use Rattle.geom_check.specs.RiserOrder.{IsRiserOnGrid, IsRising};
 ghost use Rattle.geom_check.specs.Walk.{IsEnd, AreEndsOf, AreRising};
