@@ -27,14 +27,16 @@ fn up(riser: &Riser) -> u64
     requires riser { IsRiserOnGrid riser.now }
     requires rising { IsRising riser.now }
     ensures positive { 0 < result }
+    ensures small { result ≤ WIDTH }
 {
     (riser.b.y - riser.a.y) as u64
 }
 
-/// A slope, in parts of which two make up the least difference of two slopes.
+/// The slope `across` / `up`, in parts of which two make up the least difference of two slopes.
 fn lean(across: u64, up: u64) -> u128
     requires positive { 0 < up }
-    requires small { across ≤ 2 * WIDTH }
+    requires small { across ≤ 2 * WIDTH * up }
+    requires low { up ≤ WIDTH }
     ensures { result < LEANS }
 {
     across as u128 * LEAN_PARTS / up as u128
@@ -51,7 +53,7 @@ fn key_of(level: u64, column: u64, lean: u128) -> u128
     level as u128 * KEYS + column as u128 * LEANS + lean
 }
 
-/// The lower end of a riser.
+/// The lower end of a riser. Its slope is counted from -`WIDTH`, so that it isn't negative.
 fn lower_end(riser: &Riser, id: usize) -> Event
     requires riser { IsRiserOnGrid riser.now }
     requires rising { IsRising riser.now }
@@ -61,7 +63,8 @@ fn lower_end(riser: &Riser, id: usize) -> Event
 {
     let (low, high) = (from_left(&riser.a), from_left(&riser.b));
     let level = level(&riser.a);
-    let lean = lean(WIDTH + high - low, up(riser));
+    let up = up(riser);
+    let lean = lean(WIDTH * up + high - low, up);
     Event {
         key: key_of(level, 2 * low + 1, lean),
         level,
@@ -80,7 +83,8 @@ fn upper_end(riser: &Riser, id: usize) -> Event
 {
     let (low, high) = (from_left(&riser.a), from_left(&riser.b));
     let level = level(&riser.b);
-    let lean = lean(WIDTH + low - high, up(riser));
+    let up = up(riser);
+    let lean = lean(WIDTH * up + low - high, up);
     Event {
         key: key_of(level, 2 * high, lean),
         level,

@@ -77,7 +77,7 @@ fn do_agree_at(risers: &[Riser], strip: &Strip, order: &[usize], place: usize) -
     ensures { result ≡ true → 1 ≤ place → place < length order.now →
         DoAgreeAt risers.now order.now place }
 {
-    if place == 0 || place >= order.len() {
+    if place == 0 || order.len() <= place {
         return true;
     }
     do_agree(strip, &risers[order[place - 1]], &risers[order[place]])
@@ -169,13 +169,13 @@ fn take_out(risers: &[Riser], walk: &mut Walk, id: usize) -> Result<bool, OutOfM
         walk.new.order.items walk.new.changed.items walk.new.last) }
     ensures next { walk.new.next ≡ walk.old.next }
 {
-    let place = place_for(risers, &walk.order, &risers[id].b, true);
-    if place < walk.last || place >= walk.order.len() || walk.order[place] != id {
+    let gap = place_for(risers, &walk.order, &risers[id].b, true);
+    if gap < walk.last || gap >= walk.order.len() || walk.order[gap] != id {
         return Ok(false);
     }
-    walk.order.remove(place);
-    walk.changed.push(place)?;
-    walk.last = place;
+    walk.order.remove(gap);
+    walk.changed.push(gap)?;
+    walk.last = gap;
     Ok(true)
 }
 

@@ -3,6 +3,7 @@ use Rattle.std.proofs.Common.{◌≡◌, ℕ, zero, suc, ◌<◌, List, [], ◌�
 use Rattle.std.specs.Prelude.{◌≢◌}
 use Rattle.std.specs.List.{AllByRecursion, AllZip}
 use Rattle.std.proofs.lemmas.Int.{ints}
+use Rattle.std.proofs.Math.Seq.{take-length}
 use Rattle.std.proofs.lemmas.List.{map-append}
 use Rattle.std.proofs.lemmas.List.Elements.{recursion_from_All}
 use Rattle.grid_geom.specs.declared.Edge.{Edge}
@@ -47,7 +48,7 @@ use Rattle.mesh_run.proofs.OneRun.{one_domain_run}
 use Rattle.mesh_run.proofs.Steps.{reached_after, reached_glued, reached_opening, reached_with}
 
 -- a state is reached, and sound with the further edges
-abbrev IsSoundAt : List Edge → List Edge → State → Type 0
+abbrev pub IsSoundAt : List Edge → List Edge → State → Type 0
 IsSoundAt b others st = IsSound b others (front_at st) (elements_at st)
 
 -- ---- the opening: the boundary in pieces winds as the one in segments, 0 times or once off the segments
@@ -65,7 +66,7 @@ bounds g options d h above =
     at_most {z} (inl e) = omega (arith, ints)
     at_most {z} (inr e) = omega (arith, ints)
 
-sound_opening : (g : PlanarMap) (options : Options) (d : ℕ) → IsGeometry g → 0 < d → IsSoundAt (piece_boundary d g.segments (pieces_by g options)) (edges_of g.points g.segments) (opening_of g options d)
+pub sound_opening : (g : PlanarMap) (options : Options) (d : ℕ) → IsGeometry g → 0 < d → IsSoundAt (piece_boundary d g.segments (pieces_by g options)) (edges_of g.points g.segments) (opening_of g options d)
 sound_opening g options d h above =
     let b = piece_boundary d g.segments (pieces_by g options) in let others = edges_of g.points g.segments in
     subst (λ (es : List Edge). IsSound b others es []) (sym (front_opens d g.segments (pieces_by g options)))
@@ -98,6 +99,10 @@ sound_all b others s st (a ∷ more) (suc k) r sound can n =
     let may = may_next b s st a r can n.0 in
     sound_all b others s (applied st a) more k (reached_after b st a r may) (sound_after b others st a r sound may) can n.1
 
+pub sound_state : (b others : List Edge) (s : RunSetting) (st : State) (more : List Application) → IsReached b st → IsSoundAt b others st → CanPrint s.rules → AreNext s st more → IsSoundAt b others (state_after st more)
+sound_state b others s st more r sound can n =
+    subst (λ (done : List Application). IsSoundAt b others (state_after st done)) (take-length more) (sound_all b others s st more (length more) r sound can n)
+
 -- ---- two domains: no point is in both, and their pieces don't tangle
 one_of : {z : ℤ} → IsZeroOrOne z → pos 1 ≤ℤ z → z ≡ pos 1
 one_of {z} (inl e) h = omega (arith, ints)
@@ -121,7 +126,7 @@ apart_either : (g : PlanarMap) (options : Options) (c d : ℕ) → IsGeometry g 
 apart_either g options c d h above higher (inl less) q kq off in_c in_d = apart_by g options c d h above less q kq off in_c in_d
 apart_either g options c d h above higher (inr less) q kq off in_c in_d = apart_by g options d c h higher less q kq off in_d in_c
 
-neighbours : (g : PlanarMap) (options : Options) (c d : ℕ) → IsGeometry g → 0 < c → 0 < d → (c < d) ⊎ (d < c) → AreNeighbours (piece_boundary c g.segments (pieces_by g options)) (piece_boundary d g.segments (pieces_by g options)) (edges_of g.points g.segments)
+pub neighbours : (g : PlanarMap) (options : Options) (c d : ℕ) → IsGeometry g → 0 < c → 0 < d → (c < d) ⊎ (d < c) → AreNeighbours (piece_boundary c g.segments (pieces_by g options)) (piece_boundary d g.segments (pieces_by g options)) (edges_of g.points g.segments)
 neighbours g options c d h above higher order = record {
   apart = apart_either g options c d h above higher order;
   pieces = boundaries_apart g options.greatest options.grading c d h;
@@ -129,9 +134,9 @@ neighbours g options c d h above higher order = record {
 
 -- ---- runs
 -- a run of the domain that it names
-record IsRunOf (g : PlanarMap) (rules : List Rule) (options : Options) (r : DomainRun) : Type 0 where
-  above : 0 < r.domain
-  run : IsDomainRun g rules options r.domain r
+pub record IsRunOf (g : PlanarMap) (rules : List Rule) (options : Options) (r : DomainRun) : Type 0 where
+  pub above : 0 < r.domain
+  pub run : IsDomainRun g rules options r.domain r
 
 runs_of : (g : PlanarMap) (rules : List Rule) (options : Options) (ds : List ℕ) (rs : List DomainRun) → AllByRecursion IsDomain ds → AllZip (IsDomainRun g rules options) ds rs → AllByRecursion (IsRunOf g rules options) rs
 runs_of g rules options [] [] above runs = tt
@@ -145,8 +150,11 @@ runs_of g rules options (d ∷ ds) (r ∷ rs) above runs = (
   runs_of g rules options ds rs above.1 runs.1,
 )
 
+pub all_runs : (g : PlanarMap) (rules : List Rule) (options : Options) (w : WholeRun) → IsGeometry g → IsWholeRun g rules options w → AllByRecursion (IsRunOf g rules options) w.domains
+all_runs g rules options w h run = runs_of g rules options (domain_numbers g.segments) w.domains (recursion_from_All IsDomain (domain_numbers g.segments) (numbers_within _ g.segments h.joined)) run.domains
+
 -- a domain's state is sound
-abbrev IsSoundState : PlanarMap → DomainState → Type 0
+abbrev pub IsSoundState : PlanarMap → DomainState → Type 0
 IsSoundState g s = IsSound s.boundary (edges_of g.points g.segments) s.front s.elements
 
 sound_run : (g : PlanarMap) (rules : List Rule) (options : Options) (r : DomainRun) (k : ℕ) → IsGeometry g → CanPrint rules → IsRunOf g rules options r → IsSoundState g (domain_state g options r k)
@@ -161,7 +169,7 @@ sides_match g s sound = record {
   matched = λ e i. each_side_once s.boundary (edges_of g.points g.segments) s.front s.elements e sound.kept sound.bounds i;
 }
 
-none_hangs_within : (g : PlanarMap) (s : DomainState) → IsSoundState g s → NoneHangs s s
+pub none_hangs_within : (g : PlanarMap) (s : DomainState) → IsSoundState g s → NoneHangs s s
 none_hangs_within g s sound v e mesh among =
     at_edge (λ f. ¬ (IsOnOpen v f.a f.b)) e (all_sides s.elements) (sound.unhung.each v (used mesh)).off_sides among
   where
@@ -174,7 +182,7 @@ record ConformsWith (s t : DomainState) : Type 0 where
   differ : s.domain ≢ t.domain → DoSidesDiffer s t
   unhung : NoneHangs s t
 
-in_order : (c d : ℕ) → (c ≡ d) ⊎ ((c < d) ⊎ (d < c))
+pub in_order : (c d : ℕ) → (c ≡ d) ⊎ ((c < d) ⊎ (d < c))
 in_order zero zero = inl refl
 in_order zero (suc d) = inr (inl (omega arith))
 in_order (suc c) zero = inr (inr (omega arith))
@@ -234,7 +242,7 @@ each_matched g rules options chosen (r ∷ rs) h can is =
 
 pub all_conform : (g : PlanarMap) (rules : List Rule) (options : Options) (w : WholeRun) (chosen : ℕ → ℕ) → IsGeometry g → CanPrint rules → IsWholeRun g rules options w → AreConforming (states_at g options chosen w.domains)
 all_conform g rules options w chosen h can run =
-    let runs = runs_of g rules options (domain_numbers g.segments) w.domains (recursion_from_All IsDomain (domain_numbers g.segments) (numbers_within _ g.segments h.joined)) run.domains in
+    let runs = all_runs g rules options w h run in
     record {
       matched = each_matched g rules options chosen w.domains h can runs;
       differ = each_two g rules options chosen (λ s t. s.domain ≢ t.domain → DoSidesDiffer s t) w.domains w.domains (λ r q is iq. (conform g rules options chosen r q h can is iq).differ) runs runs;

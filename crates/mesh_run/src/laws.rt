@@ -32,6 +32,7 @@ ghost use Rattle.mesh_run.specs.Runs.{opening_of, opening_state, setting_of, IsD
 ghost use Rattle.mesh_run.specs.Reached.{IsReached, MayBeApplied, front_at};
 ghost use Rattle.mesh_run.specs.Steps.{applied, AreNext, IsEndOf, IsNext, NothingApplies, RunSetting, state_after};
 ghost use Rattle.mesh_run.specs.Sum.{AreCovered, IsCovered};
+ghost use Rattle.mesh_check.specs.Whole.{IsWhole};
 ghost use Rattle.mesh_run.specs.Conform.{AreConforming, states_at};
 ghost use Rattle.mesh_run.specs.declared.Options.{Options};
 ghost use Rattle.mesh_run.specs.declared.End.{End};
@@ -247,4 +248,11 @@ pub fn law_conform()
     ensures { (g : PlanarMap) (rules : List Rule) (options : Options) (w : WholeRun)
         (chosen : ℕ → ℕ) → IsGeometry g → CanPrint rules → IsWholeRun g rules options w →
         AreConforming (states_at g options chosen w.domains) }
+{}
+
+/// The mesh of a run that is done is whole: none of the faults that a check of meshes looks for is in it.
+pub fn law_done()
+    ensures { (g : PlanarMap) (rules : List Rule) (options : Options) (w : WholeRun) →
+        IsGeometry g → CanPrint rules → IsWholeRun g rules options w → w.end ≡ Done →
+        IsWhole g (mesh_of_run w g.segments) }
 {}

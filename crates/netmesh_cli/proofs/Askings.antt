@@ -13,7 +13,7 @@ use Rattle.netmesh_cli.specs.Commands.{Task, MeshTask, MeshOf, GeomOf, RulesOf, 
 use Rattle.netmesh_cli.specs.Words.{IsUnbuilt, AskForUnbuilt, WordsRefused}
 use Rattle.netmesh_cli.specs.Causes.{IsUntaken}
 use Rattle.netmesh_cli.specs.Taking.{TakesRefused}
-use Rattle.netmesh_cli.specs.Jobs.{Job, MeshJob, GeomJob, RulesJob, task_of_job, takes_of, puts_of}
+use Rattle.netmesh_cli.specs.Jobs.{Job, MeshJob, GeomJob, RulesJob, GenJob, task_of_job, takes_of, puts_of}
 use Rattle.netmesh_cli.specs.Served.{AreApart, RefusalCause, RefusalStands, Keeps, WrittenBefore}
 use Rattle.netmesh_cli.specs.Top.{IsNotYetOrMemory, IsWordsOrMemory, IfServed, IfRefused, WordsAnswer, WordsCause, Answers, Exactly, HoldsMesh, Telling}
 use Rattle.netmesh_cli.proofs.Exclusion.{one_fault, never_both, one_command}
@@ -72,6 +72,7 @@ pub job_is_built : (job : Job) → ¬ IsUnbuilt (task_of_job job)
 job_is_built (MeshJob task) unbuilt = unbuilt
 job_is_built (GeomJob geometry) unbuilt = unbuilt
 job_is_built (RulesJob rules) unbuilt = unbuilt
+job_is_built (GenJob squares parts) unbuilt = unbuilt
 
 -- a task is asked for by one job
 job_in : Job → Task → Job
@@ -81,13 +82,14 @@ job_in other (RulesOf name) = RulesJob name
 job_in other (CheckOf _ _) = other
 job_in other (ViewOf _ _ _) = other
 job_in other (ReplayOf _ _ _) = other
-job_in other (GenOf _ _) = other
+job_in other (GenOf squares parts) = GenJob squares parts
 
 job_again : (other job : Job) → job_in other (task_of_job job) ≡ job
 unfolding job_in
 job_again other (MeshJob task) = refl
 job_again other (GeomJob geometry) = refl
 job_again other (RulesJob rules) = refl
+job_again other (GenJob squares parts) = refl
 
 pub one_job : (words : List (List ℕ)) (job other : Job) → IsCommand words (task_of_job job) → IsCommand words (task_of_job other) → job ≡ other
 one_job words job other first second = sym (job_again job job) ∙ ap (job_in job) (one_command words (task_of_job job) (task_of_job other) first second) ∙ job_again job other
@@ -97,6 +99,7 @@ pub job_apart : (words : List (List ℕ)) (job : Job) → IsCommand words (task_
 job_apart words (MeshJob task) command = (λ listed. elim listed [ inl same ↦ command.3.2 (sym same) | inr none ↦ none ], ((λ none. none), tt))
 job_apart words (GeomJob geometry) command = tt
 job_apart words (RulesJob rules) command = tt
+job_apart words (GenJob squares parts) command = tt
 
 -- ---- memory is refused for words that ask for what is built
 

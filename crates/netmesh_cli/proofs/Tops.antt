@@ -11,7 +11,7 @@ use Rattle.netmesh_cli.specs.declared.outcome.Refusal.{Refusal}
 use Rattle.netmesh_cli.specs.declared.outcome.Refusal.TheVariants.{Words, In2d, Geometry, Rules, Folder, Out, Memory, NotYet}
 use Rattle.netmesh_cli.specs.Commands.{MeshTask}
 use Rattle.netmesh_cli.specs.Causes.{IsUntaken}
-use Rattle.netmesh_cli.specs.Jobs.{Job, MeshJob, GeomJob, RulesJob, puts_of, EndsSo, Put}
+use Rattle.netmesh_cli.specs.Jobs.{Job, MeshJob, GeomJob, RulesJob, GenJob, puts_of, EndsSo, Put}
 use Rattle.netmesh_cli.specs.Served.{AreApart, put_all, IsServed, IsAnswer, HasAll, WrittenBefore, Course, RefusalCause, RefusalStands, Keeps}
 use Rattle.netmesh_cli.specs.Lines.{refusal_line}
 use Rattle.netmesh_cli.specs.Top.{IfServed, IfRefused, IsRefusedAnd, IsServedOr, WritesOrFails, WritesLine, HasLine, Telling, no_line, line_told, no_memory, Answers, HoldsMesh}
@@ -119,6 +119,7 @@ never_refused : (job : Job) (r : Refusal) → ¬ EndsSo job (Refused r)
 never_refused (MeshJob task) r ends = ends
 never_refused (GeomJob geometry) r ends = ends
 never_refused (RulesJob rules) r ends = ends
+never_refused (GenJob squares parts) r ends = ends
 
 if_served : (outcome : Outcome) (P : Outcome → Type 0) → P outcome → IfServed outcome P
 if_served Done P fact = fact

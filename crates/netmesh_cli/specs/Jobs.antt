@@ -14,6 +14,8 @@ use Rattle.rule_reader.specs.declared.rule.Rule.{Rule}
 use Rattle.geom_check.specs.Placed.{IsReadableIfAny}
 use Rattle.geom_check.specs.Geometry.{PlanarMap}
 use Rattle.mesh_run.specs.declared.WholeRun.{WholeRun}
+use Rattle.mesh_run.specs.declared.End.{End}
+use Rattle.sample_run.specs.Sampled.{IsSampled}
 use Rattle.netmesh_cli.specs.declared.outcome.Outcome.{Outcome}
 use Rattle.netmesh_cli.specs.declared.outcome.Outcome.TheVariants.{Done, Stuck, Stopped, Shown}
 use Rattle.netmesh_cli.specs.declared.made.Put.{Put as PutValue}
@@ -21,8 +23,8 @@ use Rattle.netmesh_cli.specs.declared.made.Made.{Made as MadeValue}
 use Rattle.netmesh_cli.specs.declared.command.MeshCall.{MeshCall}
 use Rattle.netmesh_cli.specs.declared.command.MeshOptions.{MeshOptions}
 use Rattle.netmesh_cli.specs.declared.asked.Asked.{Asked}
-use Rattle.netmesh_cli.specs.declared.asked.Asked.TheVariants.{Mesh, Geom, Rules}
-use Rattle.netmesh_cli.specs.Commands.{Task, MeshTask, MeshOf, GeomOf, RulesOf}
+use Rattle.netmesh_cli.specs.declared.asked.Asked.TheVariants.{Mesh, Geom, Rules, Gen}
+use Rattle.netmesh_cli.specs.Commands.{Task, MeshTask, MeshOf, GeomOf, RulesOf, GenOf}
 use Rattle.netmesh_cli.specs.Accepted.{IsGeometryText, AreRules}
 use Rattle.netmesh_cli.specs.Causes.{HoldsWithin}
 use Rattle.netmesh_cli.specs.Taking.{Taken, geometry_at, rule_file_at}
@@ -32,17 +34,20 @@ use Rattle.netmesh_cli.specs.Listed.{IsListing}
 
 -- ---- what is asked for
 
--- the verbs that are built: the files are given by their names
+-- the verbs that are built: files are given by their names
 pub data Job : Type 0 where
   MeshJob : MeshTask → Job
   GeomJob : List ℕ → Job
   RulesJob : List ℕ → Job
+  -- the squares each way, and the parts of a side
+  GenJob : ℕ → ℕ → Job
 
 -- as the words of a call ask for it
 abbrev pub task_of_job : Job → Task
 task_of_job (MeshJob task) = MeshOf task
 task_of_job (GeomJob geometry) = GeomOf geometry
 task_of_job (RulesJob rules) = RulesOf rules
+task_of_job (GenJob squares parts) = GenOf squares parts
 
 -- as the program reads it off the words
 abbrev pub task_of_mesh : MeshCall → MeshTask
@@ -58,6 +63,7 @@ abbrev pub job_of : Asked → Job
 job_of (Mesh call) = MeshJob (task_of_mesh call)
 job_of (Geom geometry) = GeomJob geometry.now
 job_of (Rules rules) = RulesJob rules.now
+job_of (Gen squares parts) = GenJob squares parts
 
 -- the options of `mesh` are in the ranges that words may give them
 pub record AreInRange (options : MeshOptions) : Type 0 where
@@ -66,10 +72,18 @@ pub record AreInRange (options : MeshOptions) : Type 0 where
   pub class_least : IfSome options.class (λ n. 1 ≤ n)
   pub class_greatest : IfSome options.class (λ n. n ≤ 16)
 
+-- so many squares each way, and parts to a side, as words may ask for
+pub record AreFew (squares parts : ℕ) : Type 0 where
+  pub squares_least : 1 ≤ squares
+  pub squares_greatest : squares ≤ 8
+  pub parts_least : 1 ≤ parts
+  pub parts_greatest : parts ≤ 16
+
 abbrev pub IsInRange : Job → Type 0
 IsInRange (MeshJob task) = AreInRange task.options
 IsInRange (GeomJob geometry) = Unit {0}
 IsInRange (RulesJob rules) = Unit {0}
+IsInRange (GenJob squares parts) = AreFew squares parts
 
 -- ---- what is taken and put
 
@@ -77,18 +91,26 @@ abbrev pub takes_of : Job → List Taken
 takes_of (MeshJob task) = geometry_at task.geometry ∷ rule_file_at task.rules ∷ []
 takes_of (GeomJob geometry) = geometry_at geometry ∷ []
 takes_of (RulesJob rules) = rule_file_at rules ∷ []
+takes_of (GenJob squares parts) = []
 
 -- the log is put before the mesh
 abbrev pub puts_of : Job → List (List ℕ)
 puts_of (MeshJob task) = task.log ∷ task.mesh ∷ []
 puts_of (GeomJob geometry) = []
 puts_of (RulesJob rules) = []
+puts_of (GenJob squares parts) = []
 
 abbrev pub IsRunOutcome : Outcome → Type 0
 IsRunOutcome Done = Unit {0}
 IsRunOutcome Stuck = Unit {0}
 IsRunOutcome Stopped = Unit {0}
 IsRunOutcome _ = ⊥
+
+-- a run without a limit on its steps is never stopped
+abbrev pub IsDoneOrStuck : Outcome → Type 0
+IsDoneOrStuck Done = Unit {0}
+IsDoneOrStuck Stuck = Unit {0}
+IsDoneOrStuck _ = ⊥
 
 abbrev pub IsShown : Outcome → Type 0
 IsShown Shown = Unit {0}
@@ -98,6 +120,7 @@ abbrev pub EndsSo : Job → Outcome → Type 0
 EndsSo (MeshJob task) = IsRunOutcome
 EndsSo (GeomJob geometry) = IsShown
 EndsSo (RulesJob rules) = IsShown
+EndsSo (GenJob squares parts) = IsDoneOrStuck
 
 -- ---- what is made
 
@@ -172,8 +195,17 @@ pub record AreListed (name : List ℕ) (files : Files) (made : Made) : Type 0 wh
   pub answer : IsListing rules made.answer
   pub outcome : made.outcome ≡ Shown
 
+-- `gen`: the line of the whole run of so many squares with so many parts to a side, by the twelve rules, is
+-- written, and the outcome is that of its end
+pub record IsGenerated (squares parts : ℕ) (made : Made) : Type 0 where
+  pub end : End
+  pub puts : made.puts ≡ []
+  pub answer : IsSampled squares parts made.answer end
+  pub outcome : made.outcome ≡ outcome_of end
+
 -- what a verb makes of the files that are held
 abbrev pub Makes : Job → Files → Made → Type 0
 Makes (MeshJob task) files made = IsMeshed task files made
 Makes (GeomJob geometry) files made = IsDrawn geometry files made
 Makes (RulesJob rules) files made = AreListed rules files made
+Makes (GenJob squares parts) files made = IsGenerated squares parts made

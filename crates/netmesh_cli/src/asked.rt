@@ -21,6 +21,8 @@ pub enum Asked<'a> {
     Geom(&'a str),
     /// Rules, printed.
     Rules(&'a str),
+    /// A mesh of so many squares each way, with so many parts to a side.
+    Gen { squares: u64, parts: u64 },
 }
 
 /// What the words of a call ask for, or why they are refused.
@@ -34,6 +36,7 @@ pub fn read_asked<'a>(alloc: Global, words: &'a [String]) -> Result<Asked<'a>, R
         Ok(Command::Mesh(call)) => Ok(Asked::Mesh(call)),
         Ok(Command::Geom { geometry }) => Ok(Asked::Geom(geometry)),
         Ok(Command::Rules { rules }) => Ok(Asked::Rules(rules)),
+        Ok(Command::Gen { squares, parts }) => Ok(Asked::Gen { squares, parts }),
         Ok(_) => Err(Refusal::NotYet { part: WORDS_PART }),
         Err(fault) => Err(Refusal::Words(fault)),
     }

@@ -7,6 +7,7 @@ ghost use Rattle.netmesh_cli.specs.Jobs.{names_of_puts, puts_of};
 ghost use Rattle.netmesh_cli.specs.Served.{IsServed, IsAnswer, MakeRefused, Course, WrittenBefore};
 
 use super::asked::Asked;
+use super::generated::make_gen;
 use super::geom::make_geom;
 use super::made::Made;
 use super::mesh::make_mesh;
@@ -40,6 +41,7 @@ fn make<'a, R: Threads + Sync, F: Folder, G: Gate + Sync>(
         Asked::Mesh(call) => make_mesh(rt, alloc, call, folder, gate),
         Asked::Geom(name) => make_geom(alloc, name, folder),
         Asked::Rules(name) => make_rules(alloc, name, folder),
+        Asked::Gen { squares, parts } => make_gen(rt, alloc, *squares, *parts, gate),
     }
 }
 

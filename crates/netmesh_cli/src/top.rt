@@ -68,7 +68,9 @@ fn answered<R: Threads + Sync, F: Folder, O: Sink, G: Gate + Sync>(
 /// puts the log and then the mesh, and writes a summary line. `--maxh V` is the greatest size anywhere,
 /// and `--grading N` how fast sizes may grow. `geom GEOMETRY` writes the geometry's normal text, and as
 /// comments its shift and the doubled areas of its domains. `rules RULES` writes of each rule whether it
-/// is live or why it never applies, and the normal text of them all.
+/// is live or why it never applies, and the normal text of them all. `gen N M` meshes N times N unit
+/// squares with M parts to a side, by the twelve rules that the program holds, and writes the summary
+/// line: it takes no file, and nothing is refused but its words, the answer and memory.
 ///
 /// Refused are words at fault, and the other verbs; a file that isn't there, is too long or can't be
 /// taken or put; a text of no geometry; a geometry that isn't accepted; and bytes that are no rule file.

@@ -1,11 +1,12 @@
 -- The points of the squares on the grid: at each shift from 0 on they are a lattice, and their shift is one of these.
-use Rattle.std.proofs.Common.{◌≡◌, ℕ, zero, suc, ◌+◌, ◌*◌, ◌^◌, ◌<◌, ◌≤◌, All, ◌∙◌, ap, subst, refl, arith}
+use Rattle.std.proofs.Common.{◌≡◌, ℕ, zero, suc, ◌+◌, ◌*◌, ◌^◌, ◌/◌, sym, ◌<◌, ◌≤◌, All, ◌∙◌, ap, subst, refl, arith}
 use lib.IntN.{ℤ, pos, negsuc, ◌+ℤ◌}
-use Rattle.std.specs.Prelude.{neg_ℤ}
+use Rattle.std.specs.Prelude.{neg_ℤ, min, max}
+use Rattle.grid_geom.specs.declared.TheConstants.{LONGEST}
 use Rattle.std.proofs.lemmas.Int.{ints}
 use Rattle.grid_geom.specs.declared.Point.{Point}
 use Rattle.in2d_reader.specs.declared.geometry.PointRow.{PointRow}
-use Rattle.geom_check.specs.Shift.{tens, nearest, magnitude_at, grid_at, FitsAt, FitsRow, IsShift}
+use Rattle.geom_check.specs.Shift.{tens, nearest, magnitude_at, grid_at, length_at, FitsAt, FitsRow, IsShift}
 use Rattle.geom_check.specs.Placed.{place_of}
 use Rattle.geom_check.specs.declared.limits.TheConstants.{COARSEST}
 use Rattle.sample.specs.Squares.{whole, point_row, in_rows}
@@ -69,3 +70,20 @@ unit_positive s = let h : 1 ≤ 10 ^ s = ten_power s in omega arith
     ten_power : (s : ℕ) → 1 ≤ 10 ^ s
     ten_power zero = omega arith
     ten_power (suc s) = omega (arith, ten_power s)
+
+-- ---- the length 1 in grid steps
+long_enough : (m : ℕ) → 64 ≤ 64 * 1 * m / 1 → 64 ≤ max 1 (min LONGEST (64 * 1 * m / 1))
+long_enough m h = omega arith
+
+length_up : (s : ℕ) → 64 ≤ length_at (pos s) (whole 1)
+length_up s = subst (λ (z : ℤ). 64 ≤ max 1 (min LONGEST (64 * 1 * tens z / tens (neg_ℤ z)))) (from_zero s) (here s)
+  where
+    from_zero : (s : ℕ) → pos s ≡ pos 0 +ℤ pos s
+    from_zero s = omega (arith, ints)
+
+    here : (s : ℕ) → 64 ≤ max 1 (min LONGEST (64 * 1 * tens (pos s) / tens (neg_ℤ (pos s))))
+    here zero = omega arith
+    here (suc s) = long_enough (10 ^ suc s) (omega (arith, unit_positive (suc s)))
+
+pub unit_long : (n : ℕ) (shift : ℤ) → n ≤ 8 → IsShift shift (in_rows (point_row n) (n + 1) (n + 1)) → 64 ≤ length_at shift (whole 1)
+unit_long n shift h k = let found = shift_is n shift h k in subst (λ (z : ℤ). 64 ≤ length_at z (whole 1)) (sym found.1) (length_up found.0)

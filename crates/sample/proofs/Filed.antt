@@ -1,6 +1,6 @@
 -- The file of the squares by its parts, and why its check can't refuse it.
 use Rattle.std.proofs.Common.{◌≡◌, ℕ, ◌+◌, ◌≤◌, List, [], ◌++◌, Result, Ok, Err, sym, ◌∙◌, ap, subst}
-use Rattle.std.specs.Prelude.{IfErr}
+use Rattle.std.specs.Prelude.{IfOk, IfErr}
 use Rattle.word_scan.specs.declared.decimals.Dec.{Dec}
 use Rattle.in2d_reader.specs.declared.geometry.PointRow.{PointRow}
 use Rattle.in2d_reader.specs.declared.geometry.SegmentRow.{SegmentRow}
@@ -8,7 +8,10 @@ use Rattle.in2d_reader.specs.declared.geometry.MaterialRow.{MaterialRow}
 use Rattle.in2d_reader.specs.declared.geometry.RawGeometry.{RawGeometry}
 use Rattle.geom_check.specs.declared.refusal.GeomRefusal.{GeomRefusal}
 use Rattle.geom_check.specs.declared.refusal.GeomRefusal.TheVariants.{Memory}
+use Rattle.geom_check.specs.Shift.{length_at}
+use Rattle.geom_check.specs.Geometry.{PlanarMap, IsGeometryOf}
 use Rattle.geom_check.specs.Placed.{IsReadable}
+use Rattle.sample.proofs.Coordinates.{unit_long}
 use Rattle.geom_check.specs.Refused.{IsRefusal}
 use Rattle.geom_check.proofs.OneAnswer.{accepted_unrefused}
 use Rattle.sample.specs.Squares.{whole, point_row, across, up, in_rows, squares}
@@ -34,3 +37,8 @@ memory_alone n raw (Err refusal) h k e r = not_refused n raw refusal h k e r
 
 pub both_joined : (first second whole_first whole_second joined : List SegmentRow) → joined ≡ first ++ second → first ≡ whole_first → second ≡ whole_second → joined ≡ whole_first ++ whole_second
 both_joined first second whole_first whole_second joined e f g = e ∙ ap (λ xs. xs ++ second) f ∙ ap (λ xs. whole_first ++ xs) g
+
+pub has_unit : {E : Type 0} (n : ℕ) (result : Result PlanarMap E) → n ≤ 8 → IfOk result (IsGeometryOf (squares n)) → IfOk result (λ g. 64 ≤ length_at g.shift (whole 1))
+unfolding squares
+has_unit n (Ok g) h is = unit_long n g.shift h is.shift
+has_unit n (Err e) h is = tt

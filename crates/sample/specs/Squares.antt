@@ -5,8 +5,11 @@
 -- square_number             the number of a square
 -- above, below, west, east  the squares beside a segment, of which 0 is the outside
 -- squares                   the file
+-- part_length               the length of a part of a side
 use Rattle.std.specs.Prelude.{ℕ, ◌+◌, ◌-◌, ◌*◌, ◌/◌, ◌%◌, ◌==◌, if◌then◌else◌, List, [], ◌++◌, map, None, pos}
 use Rattle.std.specs.List.{range_with_len}
+use lib.IntN.{ℤ}
+use Rattle.geom_check.specs.Shift.{length_at}
 use Rattle.word_scan.specs.declared.decimals.Dec.{Dec}
 use Rattle.in2d_reader.specs.declared.geometry.PointRow.{PointRow}
 use Rattle.in2d_reader.specs.declared.geometry.SegmentRow.{SegmentRow}
@@ -80,3 +83,7 @@ squares n = record {
   segments = in_rows (across n) n (n + 1) ++ in_rows (up n) (n + 1) n;
   materials = [];
 }
+
+-- the length of a part of a side, which has so many: the grid length of 1 divided by their number, rounded downwards
+abbrev pub part_length : ℤ → ℕ → ℕ
+part_length shift parts = length_at shift (whole 1) / parts

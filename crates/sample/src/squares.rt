@@ -1,10 +1,11 @@
 //! The generated geometry: n times n unit squares, each a domain.
 
 ghost use Rattle.std.specs.Prelude.{◌≡◌, ◌+◌, ◌≤◌, IfOk, IfErr};
-ghost use Rattle.geom_check.specs.Geometry.{IsGeometryOf};
+ghost use Rattle.geom_check.specs.Shift.{length_at};
+ghost use Rattle.geom_check.specs.Geometry.{IsGeometryOf, IsLength};
 ghost use Rattle.geom_check.specs.declared.refusal.GeomRefusal.TheVariants.{Memory as NoMemory};
 ghost use Rattle.sample.specs.Squares.{point_number, square_number, above, below, west, east};
-ghost use Rattle.sample.specs.Squares.{whole, point_row, across, up, in_rows, squares};
+ghost use Rattle.sample.specs.Squares.{whole, point_row, across, up, in_rows, squares, part_length};
 
 use geom_check::{GeomRefusal, Geometry, check};
 use in2d_reader::{MaterialRows, PointRow, PointRows, RawGeometry, SegmentRow, SegmentRows};
@@ -169,8 +170,21 @@ pub fn geometry(alloc: Global, n: u32) -> Result<Geometry, GeomRefusal>
     requires least { 1 ≤ n }
     requires greatest { n ≤ 8 }
     ensures geometry { IfOk result (IsGeometryOf (squares n)) }
+    ensures unit { IfOk result (λ geometry. 64 ≤ length_at geometry.shift (whole 1)) }
     ensures refused { IfErr result (λ refusal. refusal ≡ NoMemory) }
 {
     let rows = rows(alloc, n)?;
     check(alloc, &rows)
+}
+
+/// The length of a part of a square's side, of which there are so many, in grid steps, rounded
+/// downwards.
+pub fn part_of_side(geometry: &Geometry, parts: u64) -> u64
+    requires unit { 64 ≤ length_at geometry.now.shift (whole 1) }
+    requires least { 1 ≤ parts }
+    requires greatest { parts ≤ 16 }
+    ensures value { result ≡ part_length geometry.now.shift parts }
+    ensures bounds { IsLength result }
+{
+    geometry.length_in_steps(&whole(1)) / parts
 }

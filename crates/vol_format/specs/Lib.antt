@@ -1,1 +1,4 @@
 pub mod Vol
+pub mod Text
+pub mod Refusals
+pub mod Reading

@@ -5,6 +5,6 @@ use Rattle.geom_check.proofs.walk.take_out.Goals as goal
 
 pub returns-clause-settled : goal.returns-clause-settled
 returns-clause-settled c e =
-    subst (λ (xs : List ℕ). AreSettled c.args.risers.now xs c.push.new.self.items c.place_for-place.result) (sym c.remove.ensures.items)
-    (settled_out c.args.risers.now c.args.walk.now.order.items c.args.walk.now.changed.items c.push.new.self.items c.args.walk.now.last c.place_for-place.result (omega (arith, c.if-place-walk.false)) (omega (arith, c.if-place-len.false, c.len.ensures))
+    subst (λ (xs : List ℕ). AreSettled c.args.risers.now xs c.push.new.self.items c.place_for-gap.result) (sym c.remove.ensures.items)
+    (settled_out c.args.risers.now c.args.walk.now.order.items c.args.walk.now.changed.items c.push.new.self.items c.args.walk.now.last c.place_for-gap.result (omega (arith, c.if-gap-walk.false)) (omega (arith, c.if-gap-len.false, c.len.ensures))
     c.in_ok-push.ensures.items c.requires.settled)

@@ -1,0 +1,7 @@
+use Rattle.std.proofs.Common.{ℕ, ◌<◌, slice_index_or}
+use Rattle.vol_format.specs.declared.MeshElement.{MeshElement}
+use Rattle.mesh_check.specs.Whole.{IsTurned}
+use Rattle.mesh_check.proofs.elements.first_not_turned.Given as goal
+
+abbrev pub invariant-loop-i : goal.invariant-loop-i
+invariant-loop-i l = (k : ℕ) (d : MeshElement) → k < l.i → IsTurned l.points (slice_index_or l.elements k d)

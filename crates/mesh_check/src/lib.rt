@@ -1,0 +1,21 @@
+//! Is a mesh whole for a geometry, and if not, which is its first fault?
+//!
+//! 1. A fault is looked for in the order of `Verdict`, and named at its least place.
+//! 2. Points are sorted by their places. Two at one place then stand side by side, and a point in an
+//!    open side stands between the side's ends.
+//! 3. Edge rows are walked along the segments, one after another.
+//! 4. Sides are sorted by their domains, starts and ends: where elements and boundaries agree, each
+//!    side stands as often as its turn.
+#![tactic(auto)]
+
+mod checking;
+mod difference;
+mod elements;
+mod hanging;
+mod rows;
+mod sides;
+mod spots;
+mod verdict;
+
+pub use checking::check_mesh;
+pub use verdict::Verdict;
