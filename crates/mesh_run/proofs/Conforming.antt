@@ -1,5 +1,5 @@
 -- The states of a run's domains conform. Of each domain state_law's soundness holds at the opening, with the segments as further edges, and each application keeps it: element after element, as what a run keeps is kept. Then the laws of conforming states speak of each domain, and of each two.
-use Rattle.std.proofs.Common.{◌≡◌, ℕ, zero, suc, ◌<◌, List, [], ◌∷◌, take, refl, sym, ap, subst, arith, inl, inr, ◌⊎◌, ℤ, pos, ◌≤ℤ◌}
+use Rattle.std.proofs.Common.{length, ◌≡◌, ℕ, zero, suc, ◌<◌, List, [], ◌∷◌, take, refl, sym, ap, subst, arith, inl, inr, ◌⊎◌, ℤ, pos, ◌≤ℤ◌}
 use Rattle.std.specs.Prelude.{◌≢◌}
 use Rattle.std.specs.List.{AllByRecursion, AllZip}
 use Rattle.std.proofs.lemmas.Int.{ints}
