@@ -11,7 +11,7 @@ use mir.Val.{SFits}
 use mir.Syntax.{w128}
 use native.Mathlib.Omega.{arith}
 use Rattle.std.proofs.lemmas.Int.{ints}
-use Rattle.std.proofs.lemmas.List.{get_or_append_left, length-append, map-append, take_more}
+use Rattle.std.proofs.lemmas.List.{length-append, map-append, take_more}
 use Rattle.std.proofs.lemmas.Grind.{take-set_at}
 use Rattle.std.proofs.lemmas.List.Elements.{All-push, All-from_recursion, All-get_or, Contains-append_left, Contains-append_right}
 use Rattle.std.specs.Prelude.{nat_eq, filter, None}
@@ -33,7 +33,7 @@ use Rattle.state_law.proofs.Region.{region_on}
 use Rattle.state_law.proofs.Settled.{place_on}
 use Rattle.front_chain.specs.Front.{FrontState, IsFrontState, IsOpening, IsGluable, IsPlaced, IsWalk, edges_of, state_of, number_of, or_zero, numbered_from, numbers_to, idle_points, still_waiting}
 use Rattle.front_chain.proofs.Ends.{leaves_front}
-use Rattle.front_chain.proofs.Places.{distinct_push}
+use Rattle.front_chain.proofs.Places.{distinct_push, point_old}
 
 -- what is true of a front is true of each value with the same points, lines, next number, walk and waiting points
 pub front_as : (f g : FrontState) → f.points ≡ g.points → f.lines ≡ g.lines → f.next ≡ g.next → f.walk ≡ g.walk → f.waiting ≡ g.waiting → IsFrontState f → IsFrontState g
@@ -45,12 +45,6 @@ abbrev HasPlace : List Edge → List ℕ → Point → ℕ → Type 0
 HasPlace es waiting p n = (IsFrontPoint es p ⊎ IsSettled es p) ⊎ Contains waiting n
 
 -- ---- a point more
-point_old : (points : List Point) (p : Point) (n : ℕ) → IsListed (length points) n → point_at (points ++ p ∷ []) n ≡ point_at points n
-point_old points p n l = get_or_append_left points (p ∷ []) (record { x = pos 0; y = pos 0 }) (n - 1) (inside n (length points) l.0 l.1)
-  where
-    inside : (n m : ℕ) → 1 ≤ n → n ≤ m → n - 1 < m
-    inside n m l k = omega arith
-
 pub edges_old : (points : List Point) (p : Point) (lines : List (ℕ × ℕ × ℕ)) → AllByRecursion (λ line. IsListed (length points) line.1 × IsListed (length points) line.2) lines → front_edges (points ++ p ∷ []) lines ≡ front_edges points lines
 edges_old points p [] h = refl
 edges_old points p (line ∷ lines) h = λ i. edge (point_old points p line.1 h.0.0 i) (point_old points p line.2 h.0.1 i) ∷ edges_old points p lines h.1 i

@@ -4,7 +4,10 @@
 pub mod Places
 pub mod Lines
 pub mod Tabled
--- What is asked of them: the least line above a number, whether a line leaves a point, the walk, front points.
+-- The tree: entries counted by line and by key, and that they stay the boxes of the lines.
+pub mod Entries
+pub mod Boxed
+-- What is asked of them: the least line above a number, whether a line leaves a point, how many lines there are, front points.
 pub mod Above
 pub mod Neighbours
 pub mod Numbered

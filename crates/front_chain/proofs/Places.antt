@@ -1,5 +1,6 @@
 -- Points by their places: what the table of places says of a place that is not listed. Stands on wind_law's ClosedSums.
-use Prim.Native.Nat.{ℕ, zero, suc, ◌+◌, ◌≤◌, ◌<◌}
+use Prim.Native.Nat.{ℕ, zero, suc, ◌+◌, ◌-◌, ◌≤◌, ◌<◌}
+use lib.IntN.{pos}
 use lib.ListN.{length, get_or, take}
 use mathlib.Core.Path.{◌≡◌, refl, sym, ap, ◌∙◌, subst}
 use mathlib.Core.Bool.{Bool, true, false, cond, not, ◌&&◌, ◌||◌}
@@ -15,10 +16,12 @@ use Rattle.wind_law.proofs.ClosedSums.{point_test}
 use Rattle.std.proofs.lemmas.List.Sums.{prefix_len-le-length}
 use Rattle.std.proofs.lemmas.Bool.Decides.{nat_tests}
 use Rattle.indexmap.specs.IndexSet.{insert_key}
+use Rattle.std.proofs.lemmas.List.{get_or_append_left}
 use Rattle.grid_geom.specs.declared.Point.{Point}
 use Rattle.grid_geom.specs.Closed.{same_point}
 use Rattle.grid_geom.specs.Winding.{and}
 use Rattle.grid_geom.specs.contracts.PointPartialEq.TheImpl as eq
+use Rattle.state_law.specs.State.{point_at, IsListed}
 use Rattle.front_chain.specs.Front.{number_of}
 
 -- what `==` answers of two points
@@ -131,3 +134,10 @@ point_laws = record {
 
 pub distinct_push : (ps : List Point) (p : Point) → IsDistinct same_point ps → number_of ps p ≡ None → IsDistinct same_point (ps ++ p ∷ [])
 distinct_push ps p d e = IsDistinct-push point_laws ps p d (unlisted p ps e)
+
+-- a listed point is where it was once another is listed
+pub point_old : (points : List Point) (p : Point) (n : ℕ) → IsListed (length points) n → point_at (points ++ p ∷ []) n ≡ point_at points n
+point_old points p n l = get_or_append_left points (p ∷ []) (record { x = pos 0; y = pos 0 }) (n - 1) (inside n (length points) l.0 l.1)
+  where
+    inside : (n m : ℕ) → 1 ≤ n → n ≤ m → n - 1 < m
+    inside n m l k = omega arith

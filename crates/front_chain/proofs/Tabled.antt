@@ -28,7 +28,7 @@ push_old [] t s i e = absurd (cc)
 push_old (m ∷ made) t s zero e = e
 push_old (m ∷ made) t s (suc i) e = push_old made t s i e
 
-push_new : (made : List (Option Side)) (t : Side) → side_at (made ++ Some t ∷ []) (length made) ≡ Some t
+pub push_new : (made : List (Option Side)) (t : Side) → side_at (made ++ Some t ∷ []) (length made) ≡ Some t
 push_new [] t = refl
 push_new (m ∷ made) t = push_new made t
 
@@ -268,10 +268,6 @@ module _ {points : List Point} {leaving : List ℕ} {made : List (Option Side)} 
   pub left_at : {after : Side → Option ℕ} (s : Side) (n k : ℕ) → k ≡ get_or leaving (s.from - 1) 0 → number s ≡ Some n → ((q : Side) → after q ≡ cond (same_side s q) None (number q)) →
       AreTables points (set leaving (s.from - 1) (k - 1)) (set made (n - 1) None) after
   left_at {after} s n k e there put = subst (λ (m : ℕ). AreTables points (set leaving (s.from - 1) (m - 1)) (set made (n - 1) None) after) (sym e) (tables_left h s n there put)
-
--- a line that joins has the next number
-pub number_is : (made now : List (Option Side)) (t : Side) (n : ℕ) → now ≡ made ++ Some t ∷ [] → n ≡ length now → n ≡ length made + 1
-number_is made now t n e f = f ∙ ap length e ∙ length-append made (Some t ∷ [])
 
 -- ---- a point more
 -- no line leaves a point that no line of the table names

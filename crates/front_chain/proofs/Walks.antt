@@ -1,24 +1,22 @@
--- The walk of a front: the numbers in the table by ends, in its order. It has each line's number once, and no other.
+-- The numbers in the table by ends: it has each line's number once, and no other. So it has as many entries as there are lines, as has each list that is a walk.
 use Prim.Native.Nat.{ℕ, zero, suc, ◌+◌, ◌-◌, ◌≤◌, ◌<◌}
-use lib.ListN.{length, drop}
+use lib.ListN.{length}
 use mathlib.Core.Path.{◌≡◌, refl, sym, ap, ◌∙◌, subst}
-use mathlib.Core.Bool.{Bool, true, false, cond, not, ◌||◌}
+use mathlib.Core.Bool.{Bool, true, false, cond, ◌||◌}
 use mathlib.Core.List.{List, [], ◌∷◌, map}
 use native.Mathlib.Omega.{arith}
-use Rattle.std.specs.Prelude.{nat_eq, nat_lt, is_some, position, IfSome, IsTrue, slice_get, Option, Some, None}
+use Rattle.std.specs.Prelude.{nat_eq, is_some, IfSome, IsTrue, slice_get, Option, Some, None}
 use Rattle.std.specs.Cmp.{IsEquivalence, nat_eq_equiv}
 use Rattle.std.specs.Map.{keys_of, values_of, lookup}
-use Rattle.std.specs.Option.{option_map, option_map_or}
-use Rattle.std.specs.List.{AllByRecursion, IsDistinct, find, list_any, position_or_len}
+use Rattle.std.specs.Option.{option_map}
+use Rattle.std.specs.List.{AllByRecursion, IsDistinct, find, list_any}
 use Rattle.std.proofs.lemmas.Map.Entries.{lookup_from_place}
 use Rattle.std.proofs.lemmas.Map.Made.{length-from_same_keys}
 use Rattle.grid_geom.specs.declared.Point.{Point}
-use Rattle.grid_geom.specs.declared.Bounds.{Bounds}
-use Rattle.state_law.specs.State.{AreRising, IsListed, pair_edge, point_at}
-use Rattle.wind_law.specs.Chains.{edge}
+use Rattle.state_law.specs.State.{AreRising}
 use Rattle.front_chain.specs.declared.side.Side.{Side}
 use Rattle.front_chain.specs.declared.front.Near.{Near}
-use Rattle.front_chain.specs.Front.{FrontState, line_at, is_near, does_meet, IsWalk}
+use Rattle.front_chain.specs.Front.{line_at, IsWalk}
 use Rattle.front_chain.specs.Tables.{side_at, lines_from, AreTables}
 use Rattle.front_chain.proofs.Lines.{same_side, same_self, same_sound, ends, line_numbered, no_line_zero, lines_rise, no_side, some_side}
 
@@ -172,106 +170,18 @@ pub walk_length : (walk : List ℕ) (made : List (Option Side)) → IsWalk walk 
 walk_length walk made w = length-from_same_keys nat_eq_equiv walk (numbers_of (lines_from 1 made)) w.once (numbers_rise (lines_from 1 made) (1 + length made) (lines_rise 1 made)) (λ n. w.each n ∙ sym (member_line (lines_from 1 made) n))
     ∙ length-numbers (lines_from 1 made)
 
--- ---- near lines
--- the test of an entry that is on the table
-entry_line : (made : List (Option Side)) (es : List (Side × ℕ)) → AreEntered made es → (i : ℕ) (s : Side) (n : ℕ) → slice_get es i ≡ Some (s, n) → line_at (lines_from 1 made) n ≡ Some (ends s)
-entry_line made es k i s n e = let h = k.entry i s n e in line_numbered made n h.0 ∙ ap (option_map ends) h.1
-
-pub near_entry : (f : FrontState) (b : Bounds) (made : List (Option Side)) (es : List (Side × ℕ)) → AreEntered made es → f.lines ≡ lines_from 1 made → (i : ℕ) (s : Side) (n : ℕ) → slice_get es i ≡ Some (s, n) →
-    is_near f b n ≡ does_meet b (pair_edge f.points (ends s))
-near_entry f b made es k same i s n e = ap (λ o. option_map_or (λ ends. does_meet b (pair_edge f.points ends)) o false) (ap (λ ls. line_at ls n) same ∙ entry_line made es k i s n e)
-
--- the same, with the two ends as they were looked up
-pub near_ends : (f : FrontState) (b : Bounds) (made : List (Option Side)) (es : List (Side × ℕ)) → AreEntered made es → lines_from 1 made ≡ f.lines → (i : ℕ) (s : Side) (n : ℕ) → slice_get es i ≡ Some (s, n) →
-    (p q : Point) → p ≡ point_at f.points s.from → q ≡ point_at f.points s.to → is_near f b n ≡ does_meet b (edge p q)
-near_ends f b made es k same i s n e p q from to = near_entry f b made es k (sym same) i s n e ∙ ap (λ (u : Point). does_meet b (edge u (point_at f.points s.to))) (sym from) ∙ ap (λ (u : Point). does_meet b (edge p u)) (sym to)
-
--- the ends of an entry are listed
-pub entry_listed : {points : List Point} {leaving : List ℕ} {number : Side → Option ℕ} (made : List (Option Side)) (es : List (Side × ℕ)) → AreTables points leaving made number → AreEntered made es → (i : ℕ) (s : Side) (n : ℕ) → slice_get es i ≡ Some (s, n) →
-    IsListed (length points) s.from × IsListed (length points) s.to
-entry_listed made es h k i s n e = h.joined (n - 1) s (k.entry i s n e).1
-
--- a search along the walk, one entry further
-value_at : (es : List (Side × ℕ)) (i : ℕ) (s : Side) (n : ℕ) → slice_get es i ≡ Some (s, n) → drop i (values_of es) ≡ n ∷ drop (i + 1) (values_of es)
-value_at [] i s n e = absurd (cc)
-value_at (f ∷ es) zero s n e = ap (λ (p : Side × ℕ). p.1 ∷ values_of es) (one f (s, n) e)
-  where
-    one : (p q : Side × ℕ) → Some p ≡ Some q → p ≡ q
-    one p q e = cc
-value_at (f ∷ es) (suc i) s n e = value_at es i s n e ∙ ap (λ (m : ℕ). n ∷ drop m (values_of (f ∷ es))) (later i)
-  where
-    later : (i : ℕ) → suc (i + 1) ≡ suc i + 1
-    later i = omega arith
-
-pub find_here : (test : ℕ → Bool) (es : List (Side × ℕ)) (i : ℕ) (s : Side) (n : ℕ) → slice_get es i ≡ Some (s, n) → test n ≡ true → find test (drop i (values_of es)) ≡ Some n
-find_here test es i s n e f = ap (find test) (value_at es i s n e) ∙ ap (λ b. cond b (Some n) (find test (drop (i + 1) (values_of es)))) f
-
-pub find_further : (test : ℕ → Bool) (es : List (Side × ℕ)) (i : ℕ) (s : Side) (n : ℕ) → slice_get es i ≡ Some (s, n) → test n ≡ false → find test (drop i (values_of es)) ≡ find test (drop (i + 1) (values_of es))
-find_further test es i s n e f = ap (find test) (value_at es i s n e) ∙ ap (λ b. cond b (Some n) (find test (drop (i + 1) (values_of es)))) f
-
-pub find_past : (test : ℕ → Bool) (es : List (Side × ℕ)) (i : ℕ) → length es ≤ i → find test (drop i (values_of es)) ≡ None
-find_past test [] zero h = refl
-find_past test [] (suc i) h = refl
-find_past test (e ∷ es) zero h = absurd (omega (arith, h))
-find_past test (e ∷ es) (suc i) h = find_past test es i (omega (arith, h))
-
--- where a line's number is in the walk, its ends are in the table
-module _ {points : List Point} {leaving : List ℕ} (made : List (Option Side)) {number : Side → Option ℕ} (h : AreTables points leaving made number) (s : Side) (n : ℕ) (there : number s ≡ Some n) where
-  pub place_of : (es : List (Side × ℕ)) → AreEntered made es → position_or_len (nat_eq n) (values_of es) ≡ position_or_len (same_side s) (keys_of es)
-  place_of [] k = refl
-  place_of (f ∷ es) k = ap (λ (b : Bool). cond (not b) (1 + position_or_len (nat_eq n) (values_of es)) 0) (agree (nat_eq n f.1) (same_side s f.0) refl refl)
-      ∙ ap (λ (m : ℕ). cond (not (same_side s f.0)) (1 + m) 0) (place_of es (rest_entered made f es k))
-    where
-      same : (m n : ℕ) → nat_eq m n ≡ true → m ≡ n
-      same m n e = grind arith
-
-      equal : (m n : ℕ) → Some m ≡ Some n → nat_eq m n ≡ true
-      equal m n e = at m n (one m n e)
-        where
-          one : (m n : ℕ) → Some m ≡ Some n → m ≡ n
-          one m n e = cc
-
-          at : (m n : ℕ) → m ≡ n → nat_eq m n ≡ true
-          at m n e = grind arith
-
-      back : (m : ℕ) → 1 ≤ m → (m - 1) + 1 ≡ m
-      back m l = omega arith
-
-      clash : {A : Type 0} → true ≡ false → A
-      clash e = absurd (cc)
-
-      agree : (b c : Bool) → nat_eq n f.1 ≡ b → same_side s f.0 ≡ c → nat_eq n f.1 ≡ same_side s f.0
-      agree true true g i = g ∙ sym i
-      agree false false g i = g ∙ sym i
-      agree true false g i = clash (sym (subst (λ (u : Side). same_side s u ≡ true) (some_side s f.0 (sym (h.kept s n there).1 ∙ ap (λ (m : ℕ). side_at made (m - 1)) (same n f.1 g) ∙ (k.entry zero f.0 f.1 refl).1)) (same_self s)) ∙ i)
-      agree false true g i = let at = k.entry zero f.0 f.1 refl in
-          clash (sym (equal n f.1 (sym there ∙ ap number (same_sound s f.0 i) ∙ h.found (f.1 - 1) f.0 at.1 ∙ ap Some (back f.1 at.0))) ∙ g)
-
 -- ---- a line by its number, in the table by ends
 no_image : {A B : Type 0} (f : A → B) (o : Option A) (b : B) → option_map f o ≡ Some b → (a : A) × (o ≡ Some a) × (f a ≡ b)
 no_image f None b e = absurd (cc)
 no_image f (Some a) b e = (a, refl, cc)
 
-ends_at : (made : List (Option Side)) (n : ℕ) (e : ℕ × ℕ) → line_at (lines_from 1 made) n ≡ Some e → (1 ≤ n) × (side_at made (n - 1) ≡ Some (record { from = e.0; to = e.1 }))
+pub ends_at : (made : List (Option Side)) (n : ℕ) (e : ℕ × ℕ) → line_at (lines_from 1 made) n ≡ Some e → (1 ≤ n) × (side_at made (n - 1) ≡ Some (record { from = e.0; to = e.1 }))
 ends_at made zero e h = absurd (clash (sym (no_line_zero made) ∙ h))
   where
     clash : {A : Type 0} {a : A} → None ≡ Some a → ⊥
     clash i = cc
 ends_at made (suc i) e h = let k = no_image ends (side_at made (suc i - 1)) e (sym (line_numbered made (suc i) (omega arith)) ∙ h) in
     (omega arith, k.1 ∙ ap (λ (p : ℕ × ℕ). Some (record { from = p.0; to = p.1 })) k.2)
-
-pub number_there : {points : List Point} {leaving : List ℕ} {number : Side → Option ℕ} (made : List (Option Side)) → AreTables points leaving made number → (n : ℕ) (e : ℕ × ℕ) → line_at (lines_from 1 made) n ≡ Some e → number (record { from = e.0; to = e.1 }) ≡ Some n
-number_there made h n e i = let k = ends_at made n e i in h.found (n - 1) (record { from = e.0; to = e.1 }) k.1 ∙ ap Some (back n k.0)
-  where
-    back : (n : ℕ) → 1 ≤ n → (n - 1) + 1 ≡ n
-    back n l = omega arith
-
-pub some_place : {X : Type 0} (test : X → Bool) (ks : List X) (i : ℕ) → position test ks ≡ Some i → position_or_len test ks ≡ i
-some_place test ks i e = by (nat_lt (position_or_len test ks) (length ks)) e
-  where
-    by : (b : Bool) → cond b (Some (position_or_len test ks)) None ≡ Some i → position_or_len test ks ≡ i
-    by true h = cc
-    by false h = absurd (cc)
 
 -- ---- what a search finds is near
 found_passes : (test : ℕ → Bool) (xs : List ℕ) (n : ℕ) → find test xs ≡ Some n → test n ≡ true

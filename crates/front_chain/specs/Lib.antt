@@ -5,8 +5,10 @@
 -- Worked  a triangle, and a square with a hole, for tests.
 -- Tables  the tables behind it (`AreTables`), for proofs.
 -- Links   the lines in order of making, each with its neighbours (`AreLinked`), for proofs.
+-- Boxes   the boxes of the lines as entries of a tree (`AreBoxed`), for proofs.
 pub mod Front
 pub mod Tables
 pub mod Links
 pub mod Gluable
 pub mod Worked
+pub mod Boxes

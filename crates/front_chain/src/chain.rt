@@ -1,13 +1,15 @@
 // The points and lines of a front in tables: each is found in one look, and a line joins or leaves at the same cost however long the front is.
-ghost use Rattle.std.specs.Prelude.{◌≡◌, ℕ, ◌+◌, ◌-◌, ◌<◌, ◌≤◌, nat_eq, List, [], ◌∷◌, ◌++◌, length, drop, filter, not, Some, None, IfOk, OnOk, IsTrue};
-ghost use Rattle.std.specs.List.{AllByRecursion, find, list_any};
-ghost use Rattle.wind_law.specs.Chains.{edge};
+ghost use Rattle.std.specs.Prelude.{◌≡◌, ◌+◌, ◌-◌, ◌<◌, ◌≤◌, ◌^◌, nat_eq, true, false, [], ◌∷◌, ◌++◌, length, set, filter, not, Some, None, is_some, OnOk, IsTrue};
+ghost use Rattle.std.specs.List.{AllByRecursion, list_any};
 ghost use Rattle.state_law.specs.State.{IsListed, glue_line, next_after, point_at};
-ghost use Rattle.front_chain.specs.Front.{FrontState, IsWalk, line_at, number_between, number_above, number_of, is_near, does_meet, first_in_walk, next_in_walk, still_waiting};
-ghost use Rattle.front_chain.specs.Tables.{lines_from, is_positive};
+ghost use Rattle.front_chain.specs.Front.{FrontState, IsWalk, line_at, number_between, number_above, number_of, is_near, first_in_walk, next_in_walk, still_waiting};
+ghost use Rattle.front_chain.specs.Tables.{side_at, is_positive};
+ghost use Rattle.front_chain.specs.Boxes.{has_line, IsEntered, IsLeft};
 
+use crate::boxes::box_of;
 use crate::order::Order;
 use crate::side::Side;
+use crate::walk::Walk;
 use grid_geom::{Bounds, Point};
 use indexmap::{IndexMap, IndexSet};
 use std::alloc::{AllocError as OutOfMemory, Global};
@@ -22,20 +24,23 @@ pub struct Chain {
     leaving: Vec<u64>,
     // the lines by their numbers, in order of making
     order: Order,
-    // the number of each line, by its ends; the order of the entries is the walk
+    // the number of each line, by its ends
     sides: IndexMap<Side, u64>,
+    // the boxes of the lines, in the order of the walk
+    walk: Walk,
     // the numbers of the points that no line and no element has had so far
     waiting: Vec<u64>,
 }
 
 impl Model for Chain {
-    ghost use Rattle.std.specs.Prelude.{ℕ, ◌+◌, ◌-◌, min, length};
+    ghost use Rattle.std.specs.Prelude.{ℕ, ◌+◌, ◌-◌, min, length, map};
     ghost use Rattle.std.specs.Vec.{vec_len, vec_capacity};
-    ghost use Rattle.indexmap.specs.IndexMap.{get, values, spare as room_of_map, IsUnique};
+    ghost use Rattle.indexmap.specs.IndexMap.{get, spare as room_of_map, IsUnique};
     ghost use Rattle.indexmap.specs.IndexSet.{spare as room_of_set};
     ghost use Rattle.front_chain.specs.contracts.side.SidePartialEq.TheImpl.{ghosts as side};
-    ghost use Rattle.front_chain.specs.Front.{FrontState};
+    ghost use Rattle.front_chain.specs.Front.{FrontState, line_at};
     ghost use Rattle.front_chain.specs.Tables.{lines_from, AreTables};
+    ghost use Rattle.front_chain.specs.Boxes.{line_of, AreBoxed};
 
     ghost Value = { FrontState };
 
@@ -43,17 +48,18 @@ impl Model for Chain {
       points = c.places.keys;
       lines = lines_from 1 c.order.made;
       next = 1 + length c.order.made;
-      walk = values c.sides;
+      walk = map line_of c.walk.entries;
       waiting = c.waiting.items;
       spare_points = min (room_of_set c.places)
           (min (vec_capacity c.leaving - vec_len c.leaving)
           (vec_capacity c.waiting - vec_len c.waiting));
-      spare_lines = min (room_of_map c.sides) c.order.spare;
+      spare_lines = min (room_of_map c.sides) (min c.order.spare c.walk.spare);
     } };
 
     ghost invariant = { λ c. AreTables c.places.keys c.leaving.items c.order.made
         (λ s. get side.eq c.sides s) ×
-        IsUnique side.eq c.sides };
+        IsUnique side.eq c.sides ×
+        AreBoxed c.places.keys (line_at (lines_from 1 c.order.made)) c.walk.entries };
 }
 
 /// Whether a line leaves the point with this number, by how many leave each point.
@@ -63,15 +69,36 @@ fn is_left(leaving: &[u64], n: u64) -> bool
     n > 0 && n <= leaving.len() as u64 && leaving[n as usize - 1] > 0
 }
 
-/// Whether the box of a line from `a` to `b` meets the box `near`. Each test is made, so that nothing branches.
-fn meets(near: Bounds, a: Point, b: Point) -> bool
-    ensures { result ≡ does_meet near (edge a b) }
+/// A line joins the lines in order of making and the walk. Tells its number.
+fn enlist(order: &mut Order, walk: &mut Walk, side: Side, bounds: Bounds) -> u64
+    requires room { 0 < order.old.spare }
+    requires walk_room { 0 < walk.old.spare }
+    requires absent { list_any (has_line (length order.old.made + 1)) walk.old.entries ≡ false }
+    ensures number { result ≡ length order.old.made + 1 }
+    ensures small { result < 2 ^ 64 - 1 }
+    ensures made { order.new.made ≡ order.old.made ++ Some side ∷ [] }
+    ensures entered { IsEntered result bounds walk.old.entries walk.new.entries }
+    ensures spare { order.old.spare ≤ order.new.spare + 1 }
+    ensures walk_spare { walk.old.spare ≤ walk.new.spare + 1 }
 {
-    let across = ((a.x <= near.hi.x) | (b.x <= near.hi.x))
-        & ((near.lo.x <= a.x) | (near.lo.x <= b.x));
-    let along = ((a.y <= near.hi.y) | (b.y <= near.hi.y))
-        & ((near.lo.y <= a.y) | (near.lo.y <= b.y));
-    across & along
+    order.push(side);
+    let number = order.made();
+    walk.enter(number, bounds);
+    number
+}
+
+/// The line with this number leaves the lines in order of making and the walk.
+fn delist(order: &mut Order, walk: &mut Walk, number: u64)
+    requires positive { 1 ≤ number }
+    requires there { is_some (side_at order.old.made (number - 1)) ≡ true }
+    requires walked { list_any (has_line number) walk.old.entries ≡ true }
+    ensures made { order.new.made ≡ set order.old.made (number - 1) None }
+    ensures left { IsLeft number walk.old.entries walk.new.entries }
+    ensures spare { order.old.spare ≤ order.new.spare }
+    ensures walk_spare { walk.old.spare ≤ walk.new.spare }
+{
+    order.take_off(number);
+    walk.leave(number);
 }
 
 impl Chain {
@@ -88,6 +115,7 @@ impl Chain {
             leaving: Vec::new(alloc),
             order: Order::new(alloc),
             sides: IndexMap::new(alloc),
+            walk: Walk::new(alloc),
             waiting: Vec::new(alloc),
         }
     }
@@ -132,7 +160,7 @@ impl Chain {
         ensures spare_lines { self.old.spare_lines ≤ self.new.spare_lines }
     {
         self.sides.swap_remove(&side);
-        self.order.take_off(number);
+        delist(&mut self.order, &mut self.walk, number);
         self.leaving[side.from as usize - 1] -= 1;
     }
 
@@ -150,8 +178,8 @@ impl Chain {
         ensures spare_points { self.new.spare_points ≡ self.old.spare_points }
         ensures spare_lines { self.old.spare_lines ≤ self.new.spare_lines + 1 }
     {
-        self.order.push(side);
-        let number = self.order.made();
+        let bounds = box_of(&self.point(side.from), &self.point(side.to));
+        let number = enlist(&mut self.order, &mut self.walk, side, bounds);
         self.sides.insert(side, number).unwrap();
         self.leaving[side.from as usize - 1] += 1;
     }
@@ -216,7 +244,8 @@ impl Chain {
         self.leaving.reserve(points)?;
         self.waiting.reserve(points)?;
         self.order.reserve(lines)?;
-        self.sides.reserve(lines)
+        self.sides.reserve(lines)?;
+        self.walk.reserve(lines)
     }
 
     /// The number of the point at this place.
@@ -292,24 +321,11 @@ impl Chain {
         self.waiting.retain(|n| !is_left(leaving, *n));
     }
 
-    /// The first line, from this place of the walk on, whose box meets `b`.
-    fn near_from(&self, start: usize, b: &Bounds) -> Option<u64>
-        ensures { result ≡ find (is_near self.now b.now) (drop start self.now.walk) }
-    {
-        for place in start..self.sides.len() {
-            let (side, number) = self.sides.get_index(place).unwrap();
-            if meets(*b, self.point(side.from), self.point(side.to)) {
-                return Some(*number);
-            }
-        }
-        None
-    }
-
     /// The first line of the walk whose box meets `b`.
     pub fn first_near(&self, b: &Bounds) -> Option<u64>
         ensures { result ≡ first_in_walk self.now b.now }
     {
-        self.near_from(0, b)
+        self.walk.first(b)
     }
 
     /// The first line of the walk after this one whose box meets `b`.
@@ -317,10 +333,6 @@ impl Chain {
         requires { IsTrue (is_near self.now b.now after) }
         ensures { result ≡ next_in_walk self.now b.now after }
     {
-        let (from, to) = self.line(after).unwrap();
-        // its length is known to leave room for one more
-        let _walked = self.sides.len();
-        let place = self.sides.get_index_of(&Side { from, to }).unwrap();
-        self.near_from(place + 1, b)
+        self.walk.next(b, after)
     }
 }

@@ -17,17 +17,21 @@
 //! element has, and the waiting points, however long the front is. Lines are linked in order of making,
 //! so what is kept of them is as long as the front, and no walk meets a line that has left. `next_line`
 //! is one look where it is given the number of a line, and else a walk from the first line on. The walks
-//! over near lines go from line to line until a tree of boxes stands behind the same two calls.
+//! over near lines ask a tree of the lines' boxes (Bonet and Peraire 1991), whose order is the walk: a
+//! step costs about the tree's height, and what stands off the box isn't looked at.
 #![tactic(auto)]
 
+mod boxes;
 mod chain;
 mod front;
 mod gluing;
 mod opening;
 mod order;
 mod side;
+mod walk;
 
 pub use front::{Front, Near};
+pub use opening::SWEEP;
 pub use std::alloc::AllocError as OutOfMemory;
 
 #[cfg(test)]

@@ -16,7 +16,7 @@ use grid_geom::{GRID, Point, orient};
 const ORIGIN: Point = Point { x: 0, y: 0 };
 
 /// The greatest area, in absolute value, that one line sweeps: twice the square of the grid's half width.
-const SWEEP: i128 = 2 * GRID as i128 * GRID as i128;
+pub const SWEEP: i128 = 2 * GRID as i128 * GRID as i128;
 
 /// Twice the signed area of the triangle of the origin and the line from `a` to `b`.
 fn swept(a: Point, b: Point) -> i128

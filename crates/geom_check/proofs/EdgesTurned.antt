@@ -138,7 +138,7 @@ turned_all points [] i d h = absurd (omega arith)
 turned_all points (s ∷ ss) zero d h = turned_first points s ss
 turned_all points (s ∷ ss) (suc i) d h = turned_later points s ss (edge_of points (slice_index_or ss i d)) (turned_all points ss i d (omega arith))
 
-risers_go_up : (points : List Point) (ss : List Segment) → All (λ r. r.a.y <ℤ r.b.y) (risers_of points ss)
+pub risers_go_up : (points : List Point) (ss : List Segment) → All (λ r. r.a.y <ℤ r.b.y) (risers_of points ss)
 risers_go_up points [] = λ i d h. absurd (omega arith)
 risers_go_up points (s ∷ ss) =
     with_up (lt_z (point_at points s.p).y (point_at points s.q).y) (upwards points s) (with_riser (lt_z (point_at points s.q).y (point_at points s.p).y) (downwards points s) (risers_of points ss)) (λ e. less (point_at points s.p).y (point_at points s.q).y e)

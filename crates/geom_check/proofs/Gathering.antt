@@ -66,7 +66,7 @@ length_mapped : (items : List Passing) → length (map (λ p. p.riser) items) �
 length_mapped [] = refl
 length_mapped (p ∷ ps) = ap (λ (n : ℕ). suc n) (length_mapped ps)
 
-free_back : (r s : Riser) → IsFree r s → IsFree s r
+pub free_back : (r s : Riser) → IsFree r s → IsFree s r
 free_back r s f = record {
   crossing = λ h. f.crossing (record { ends_first = h.ends_second; ends_second = h.ends_first });
   inner = λ m k h j. f.inner m k j h;

@@ -33,6 +33,12 @@ pub mod LevelLists
 pub mod Sound
 pub mod Overlaps
 pub mod Borders
+-- The walk up through the heights: risers that agree, how often each is in the order, and its steps.
+pub mod Agreement
+pub mod EventLists
+pub mod WalkSteps
+pub mod Tallies
+pub mod Chains
 -- Gaps: their middles, the least denominator, and the first gap with a fault.
 pub mod Divisors
 pub mod Nearest

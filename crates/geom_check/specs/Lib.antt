@@ -16,3 +16,4 @@ pub mod Geometry
 pub mod Gaps
 pub mod Spans
 pub mod Places
+pub mod Walk

@@ -71,6 +71,10 @@ pub record IsRiserOnGrid (r : Riser) : Type 0 where
   pub a : IsOnGrid r.a
   pub b : IsOnGrid r.b
 
+-- the riser goes up
+abbrev pub IsRising : Riser → Type 0
+IsRising r = r.a.y <ℤ r.b.y
+
 -- a strip of the grid
 pub record IsStripOnGrid (strip : Strip) : Type 0 where
   pub ordered : strip.low <ℤ strip.high

@@ -17,6 +17,7 @@
 mod boundaries;
 mod checking;
 mod domains;
+mod events;
 mod gaps;
 mod geometry;
 mod kinds;
@@ -30,6 +31,7 @@ mod risers;
 mod scale;
 mod spans;
 mod strips;
+mod walk;
 mod windings;
 
 pub use checking::check;

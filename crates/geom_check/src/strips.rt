@@ -218,7 +218,7 @@ pub fn borders(
 }
 
 /// The strip between two successive levels.
-fn strip_at(levels: &[u64], i: usize) -> Strip
+pub fn strip_at(levels: &[u64], i: usize) -> Strip
     requires in_list { i < length levels.now }
     requires first { 0 < i }
     requires small { All (λ n. n ≤ WIDTH) levels.now }

@@ -1,4 +1,5 @@
-// The winding numbers of domains: each 0 or 1 everywhere, and 1 for one domain at most.
+// The winding numbers of domains: each 0 or 1 everywhere, and 1 for one domain at most. Accepted
+// by a walk, refused by the strips.
 ghost use Rattle.std.specs.Prelude.{◌≡◌, ◌<◌, ◌≤◌, ℕ, ℤ, length, All, AllPairs, OnOk, IfErr, IfOk, IfSome, IfNone, Some, pos};
 ghost use Rattle.std.specs.List.Sorted.{IsStrictlyIncreasing};
 ghost use Rattle.grid_geom.specs.declared.RatPoint.{RatPoint};
@@ -18,6 +19,7 @@ use crate::limits::{MOST_DOMAINS, MOST_ROWS};
 use crate::refusal::GeomRefusal;
 use crate::risers::{Riser, risers};
 use crate::strips::levels;
+use crate::walk::are_sound;
 use grid_geom::{Edge, Point, RatPoint};
 use std::alloc::{AllocError as OutOfMemory, Global};
 
@@ -54,7 +56,8 @@ fn first_side(
     Ok(None)
 }
 
-/// The first fault of winding numbers.
+/// The first fault of winding numbers. That there is none is found by a walk; what the walk doesn't
+/// find sound is looked at strip by strip, domain by domain.
 pub fn check_windings(
     alloc: Global,
     points: &[Point],
@@ -76,6 +79,9 @@ pub fn check_windings(
 {
     let levels = levels(alloc, edges)?;
     let risers = risers(alloc, points, segments)?;
+    if are_sound(alloc, &levels, &risers)? {
+        return Ok(());
+    }
     if let Some((domain, at)) = first_side(alloc, edges, &levels, &risers)? {
         return Err(GeomRefusal::Side {
             domain: domain as u64,

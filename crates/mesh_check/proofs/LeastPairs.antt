@@ -52,9 +52,6 @@ number_either P Q R (Some m) (Some n) h k p q back = (
     lesser_right : (m n i : ℕ) → n ≤ i → min m n ≤ i
     lesser_right m n i h = omega arith
 
-pub number_itself : (n : ℕ) → IsLeastNumber (λ i. n ≡ i) (Some n)
-number_itself n = (refl, λ i e. (let f : n ≡ i = e in omega arith))
-
 -- ---- numbers from 1
 pub from_one : (P : ℕ → ℕ → Type 0) (x : ℕ × ℕ) → IsLeast P (Some x) → IsLeastPair P (x.0 + 1) (x.1 + 1)
 from_one P x h = record { first = x.0; second = x.1; first_number = refl; second_number = refl; holds = h.0; least = h.1 }

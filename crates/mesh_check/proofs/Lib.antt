@@ -7,12 +7,13 @@
 -- Twins: the least two points at one place.
 -- OpenSides: points in open sides.
 -- SliceParts: a slice as its first item and the rest.
--- SideLists: lists of sides, by the code.
 -- SideCounts: how often sides stand in lists.
 -- Numbered: sides by numbers and by places.
 -- Domains: domains are above 0; what the search for a difference answers.
 -- Seen: lists as the check sees them.
 -- Walks: walks of edge rows, step by step.
+-- OneWalk, OneVerdict: a mesh has one verdict.
+-- RowWinding, Partition, NoSharedSide: elements wind as boundaries do, and share no directed side.
 -- Moves: the tests of an edge row's ends.
 pub mod Prefixes
 pub mod Apart
@@ -21,10 +22,14 @@ pub mod SpotOrder
 pub mod Twins
 pub mod OpenSides
 pub mod SliceParts
-pub mod SideLists
 pub mod SideCounts
 pub mod Numbered
 pub mod Domains
 pub mod Seen
 pub mod Walks
+pub mod OneWalk
+pub mod OneVerdict
+pub mod RowWinding
+pub mod Partition
+pub mod NoSharedSide
 pub mod Moves

@@ -32,7 +32,7 @@ least_left u w z h l = grind (arith, ints)
 greatest_left : (u w z : ℤ) → u <ℤ w → z ≤ℤ int_max u w → z ≤ℤ w
 greatest_left u w z h l = grind (arith, ints)
 
-equal_both : (u w z : ℤ) → u ≡ w → int_min u w ≤ℤ z → z ≤ℤ int_max u w → u ≡ z
+pub equal_both : (u w z : ℤ) → u ≡ w → int_min u w ≤ℤ z → z ≤ℤ int_max u w → u ≡ z
 equal_both u w z e h l = grind (arith, ints)
 
 -- on a line that isn't upright, what is in the column of an end is that end

@@ -4,7 +4,7 @@ use lib.IntN.{ℤ, pos, ◌-ℤ◌}
 use Rattle.std.proofs.lemmas.Int.{ints}
 use Rattle.std.proofs.lemmas.Bool.{cases_lt, cases_order}
 use Rattle.std.proofs.lemmas.Cmp.{then_total, on_total, nat_cmp_total}
-use Rattle.std.proofs.lemmas.List.{get_or_default, at_drop_more, take_more, get_or-drop, length-drop}
+use Rattle.std.proofs.lemmas.List.{get_or_default, at_drop_more, get_or-drop, length-drop}
 use Rattle.std.proofs.lemmas.List.Recursion.{is_sum_by}
 use Rattle.std.proofs.lemmas.List.Sorted.{sorted_far, ranks_by, sum_by-IsPermutation}
 use Rattle.std.specs.List.{sum_by}
@@ -48,9 +48,6 @@ upto_or s t = elim (cases_order s.domain t.domain) [
     | inl f ↦ elim (cases_lt t.to s.to) [ inl l ↦ inr (inr (sym e, inr (sym f, l))) | inr l ↦ inl (inr (e, inr (f, l))) ]
   ]
 ]
-
-pub upto_itself : (s : Side) → IsUpto s s
-upto_itself s = inr (refl, inr (refl, (let h : s.to ≤ s.to = omega arith in h)))
 
 pub upto_both : (s t u : Side) → IsUpto s t → IsUpto t u → IsUpto s u
 upto_both s t u (inl h) (inl k) = inl (omega arith)
@@ -183,9 +180,6 @@ first_apart ss ts i d e r us ut long h same n one first second = record {
         (λ u. upto_least r t l (upto_both r (slice_index_or ts i e) t second (subst (λ (s : Side). IsUpto s t) (get_or_default ts i t e (omega (arith, long))) u)))))
   ];
 }
-
-pub same_before : (ss ts : List Side) (i : ℕ) (d e : Side) → length ss ≡ length ts → i < length ss → take i ss ≡ take i ts → slice_index_or ss i d ≡ slice_index_or ts i e → take (i + 1) ss ≡ take (i + 1) ts
-same_before ss ts i d e long h same f = take_more ss i d h ∙ ap (λ (us : List Side). us ++ slice_index_or ss i d ∷ []) same ∙ ap (λ (s : Side). take i ts ++ s ∷ []) f ∙ sym (take_more ts i e (omega (arith, long)))
 
 -- ---- element sides and boundaries
 -- the sorted list of element sides and turned boundary edges, and that of the turns

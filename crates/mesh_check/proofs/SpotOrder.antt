@@ -1,11 +1,10 @@
 -- Points sorted by place: what a sort leaves of them, and the least two at one place.
-use Rattle.std.proofs.Common.{◌≡◌, ◌⊎◌, ℕ, ◌+◌, ◌<◌, ◌≤◌, false, List, [], ◌∷◌, ◌++◌, length, slice_index_or, Any, Contains, AllPairs, inl, inr, sym, ◌∙◌, ap, subst, arith, Ordering, ◌≢◌}
+use Rattle.std.proofs.Common.{◌≡◌, ◌⊎◌, ℕ, ◌+◌, ◌<◌, ◌≤◌, false, List, length, slice_index_or, Any, Contains, AllPairs, inl, inr, sym, ◌∙◌, ap, subst, arith, Ordering, ◌≢◌}
 use lib.IntN.{ℤ}
 use lib.Signed.{◌<ℤ◌}
 use Rattle.std.proofs.lemmas.Int.{ints}
-use Rattle.std.proofs.lemmas.Bool.{cases_lt}
 use Rattle.std.proofs.lemmas.Cmp.{then_total, on_total, int_cmp_total, nat_cmp_total}
-use Rattle.std.proofs.lemmas.List.{get_or_default, get_or_append_left, get_or_push, length-append}
+use Rattle.std.proofs.lemmas.List.{get_or_default}
 use Rattle.std.proofs.lemmas.List.Sorted.{sorted_far, ranks_by, All-permutation, Contains-permutation}
 use Rattle.std.specs.Cmp.{IsTotalOrder}
 use Rattle.std.specs.Ordering.{is_lt, int_cmp, nat_cmp, ordering_then}
@@ -35,15 +34,6 @@ IsSpotAt points k s = (s.index ≡ k) × ((d : Point) → k < length points → 
 pub record AreFirst (points : List Point) (count : ℕ) (spots : List Spot) : Type 0 where
   pub long : length spots ≡ count
   pub each : (k : ℕ) (d : Spot) → k < count → IsSpotAt points k (slice_index_or spots k d)
-
-pub first_more : (points : List Point) (count : ℕ) (spots new : List Spot) (s : Spot) → AreFirst points count spots → new ≡ spots ++ s ∷ [] → IsSpotAt points count s → AreFirst points (count + 1) new
-first_more points count spots new s h e here = record {
-  long = ap (λ (ss : List Spot). length ss) e ∙ length-append spots (s ∷ []) ∙ ap (λ (n : ℕ). n + 1) h.long;
-  each = λ k d l. subst (λ (ss : List Spot). IsSpotAt points k (slice_index_or ss k d)) (sym e) (elim (cases_lt k count) [
-    | inl n ↦ subst (IsSpotAt points k) (sym (get_or_append_left spots (s ∷ []) d k (omega (arith, h.long)))) (h.each k d n)
-    | inr n ↦ let m : count ≡ k = omega arith in subst (λ (j : ℕ). IsSpotAt points j (slice_index_or (spots ++ s ∷ []) j d)) m (subst (IsSpotAt points count) (sym (get_or_push spots s d count h.long)) here)
-  ]);
-}
 
 -- ---- and after
 abbrev some_spot : Spot

@@ -1,16 +1,15 @@
--- Walks of edge rows along segments: how they go on by one step, and where they stop.
-use Rattle.std.proofs.Common.{◌≡◌, ◌≢◌, ℕ, ◌+◌, ◌<◌, List, [], ◌∷◌, ◌++◌, length, take, drop, slice_index_or, min, Option, Some, None, IfSome, IfNone, refl, sym, ◌∙◌, ap, subst, arith, inl, inr}
-use Rattle.std.proofs.lemmas.List.{take_more, take_all, drop_all, at_drop_more, append_assoc, append-nil, length-take}
+-- Walks of edge rows along segments: how they go on by one step.
+use Rattle.std.proofs.Common.{◌≡◌, ◌≢◌, ℕ, ◌+◌, ◌<◌, List, [], ◌∷◌, ◌++◌, length, take, min, Option, Some, None, IfSome, IfNone, refl, sym, ◌∙◌, ap, subst, arith}
+use Rattle.std.proofs.lemmas.List.{take_more, take_all, append_assoc, append-nil, length-take}
 use Rattle.grid_geom.specs.declared.Point.{Point}
 use Rattle.geom_check.specs.declared.kinds.Segment.{Segment}
 use Rattle.geom_check.specs.Boundary.{edge_of}
 use Rattle.geom_check.specs.Geometry.{PlanarMap, IsGeometry}
 use Rattle.vol_format.specs.declared.EdgeRow.{EdgeRow}
-use Rattle.vol_format.specs.declared.Mesh.{Mesh}
 use Rattle.mesh_check.specs.declared.rows.Stand.{Stand}
 use Rattle.mesh_check.proofs.Apart.{two_places}
 use Rattle.mesh_check.specs.Parts.{row_edge}
-use Rattle.mesh_check.specs.Walked.{Places, IsStep, DoesLead, DoWalk, segment_after, StandsAt, HasNoStep, IsRowFault, places_of}
+use Rattle.mesh_check.specs.Walked.{Places, IsStep, DoesLead, DoWalk, segment_after, StandsAt}
 use Rattle.mesh_check.specs.Stands.{IsStandAfter}
 
 -- ---- one more edge row
@@ -61,7 +60,7 @@ walked_on ps segments done at rows row s h e =
     long n k h e = omega arith
 
 -- ---- where the next segment begins
-two_ends : (g : PlanarMap) (k : ℕ) → IsGeometry g → k < length g.segments → (edge_of g.points (segment_after k g.segments)).a ≢ (edge_of g.points (segment_after k g.segments)).b
+pub two_ends : (g : PlanarMap) (k : ℕ) → IsGeometry g → k < length g.segments → (edge_of g.points (segment_after k g.segments)).a ≢ (edge_of g.points (segment_after k g.segments)).b
 two_ends g k h l =
     two_places g.points (segment_after k g.segments).p (segment_after k g.segments).q h.planar.places ((h.joined k _ l).p_least, (h.joined k _ l).p_greatest) ((h.joined k _ l).q_least, (h.joined k _ l).q_greatest) (h.planar.ends k _ l)
 
@@ -77,31 +76,3 @@ begun g ps done rows (Some s) h e n (f, l, a) w = subst (λ (k : ℕ). StandsAt 
   leads = ap (λ (points : List Point). (edge_of points (segment_after done g.segments)).a) e ∙ sym a;
   not_last = λ i. two_ends g done h l (sym a ∙ i ∙ ap (λ (points : List Point). (edge_of points (segment_after done g.segments)).b) e);
 })
-
--- ---- the first edge row that is no step on
-
-no_step_here : (ps : Places) (segments : List Segment) (s : Stand) (rows : List EdgeRow) (i : ℕ) (d : EdgeRow) → i < length rows → ¬ IsStep ps (s.done + 1) (segment_after s.done segments) s.at (slice_index_or rows i d) → HasNoStep ps segments s.done s.at (drop i rows)
-no_step_here ps segments s rows i d h n = subst (HasNoStep ps segments s.done s.at) (sym (at_drop_more (λ (rs : List EdgeRow). rs) rows i d h)) n
-
-pub fault_here : (g : PlanarMap) (m : Mesh) (i : ℕ) (d : EdgeRow) (stand : Option Stand) → i < length m.edges → IsStandAfter (places_of g m) g.segments (take i m.edges) stand
-    → IfSome stand (λ s. ¬ IsStep (places_of g m) (s.done + 1) (segment_after s.done g.segments) s.at (slice_index_or m.edges i d)) → IsRowFault g m (i + 1)
-fault_here g m i d None h w n = record { count = i; number = refl; in_list = omega (arith, h); fault = inr (record { walks = w; more = h }) }
-fault_here g m i d (Some s) h w n = record {
-  count = i;
-  number = refl;
-  in_list = omega (arith, h);
-  fault = inl (record { done = s.done; at = s.at; stands = w; no_step = no_step_here (places_of g m) g.segments s m.edges i d h n });
-}
-
-pub rows_missing : (g : PlanarMap) (m : Mesh) (s : Stand) → IsStandAfter (places_of g m) g.segments m.edges (Some s) → IsRowFault g m (length m.edges + 1)
-rows_missing g m s w = record {
-  count = length m.edges;
-  number = refl;
-  in_list = omega arith;
-  fault = inl (record {
-    done = s.done;
-    at = s.at;
-    stands = subst (λ (rs : List EdgeRow). StandsAt (places_of g m) g.segments s.done s.at rs) (sym (take_all (length m.edges) m.edges (omega arith))) w;
-    no_step = subst (λ (rs : List EdgeRow). HasNoStep (places_of g m) g.segments s.done s.at rs) (sym (drop_all (length m.edges) m.edges (omega arith))) tt;
-  });
-}

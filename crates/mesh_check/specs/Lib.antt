@@ -2,11 +2,13 @@
 -- Walked: edge rows that walk the segments of a geometry, and where such a walk stands.
 -- Whole: the six faults, and meshes that have none.
 -- Verdict: the first fault, at its least place.
+-- Partition: winding numbers of elements, added up.
 pub mod Parts
 pub mod Walked
 pub mod Whole
 pub mod Verdict
 -- What the code keeps on the way. Spots: points by their places. Least: least pairs. Stands: where a walk stands. Hung: points in open sides of one element. Balance: sides by numbers.
+pub mod Partition
 pub mod Spots
 pub mod Least
 pub mod Stands

@@ -12,6 +12,7 @@ mod checking;
 mod difference;
 mod elements;
 mod hanging;
+pub mod laws;
 mod rows;
 mod sides;
 mod spots;

@@ -1,12 +1,13 @@
 -- What a domain's run begins with is what a front may begin with.
 -- Its points are different, since they are listed by first occurrence. A piece has the domain on one side at most, so a boundary has no more lines
--- than there are pieces, which are at most 256 for each of 4,096 segments; and a line of the grid sweeps at most 2^41.
-use Rattle.std.proofs.Common.{◌≡◌, ℕ, zero, suc, ◌+◌, ◌*◌, ◌-◌, ◌<◌, ◌≤◌, ◌==◌, Bool, true, false, List, [], ◌∷◌, ◌++◌, map, filter, length, Option, Some, None, refl, sym, ap, ◌∙◌, subst, arith, length-append, ℤ, pos, negsuc, ◌+ℤ◌, ◌≤ℤ◌}
+-- than there are pieces, which are at most 256 for each of 4,096 segments. The pieces' doubled area is that of the segments, each of which sweeps at
+-- most SWEEP; so line numbers stay within 64 bits.
+use Rattle.std.proofs.Common.{◌≡◌, ℕ, zero, suc, ◌+◌, ◌*◌, ◌-◌, ◌^◌, ◌<◌, ◌≤◌, ◌==◌, Bool, true, false, List, [], ◌∷◌, ◌++◌, map, filter, length, Option, Some, None, refl, sym, ap, ◌∙◌, subst, arith, length-append, ℤ, pos, negsuc, ◌+ℤ◌, ◌*ℤ◌, ◌≤ℤ◌}
 use Rattle.std.specs.List.{All, AllByRecursion, IsDistinct}
 use Rattle.std.proofs.lemmas.Int.{ints}
 use Rattle.std.proofs.lemmas.Bool.{eqb-true}
 use Rattle.std.proofs.lemmas.List.{length-map}
-use Rattle.std.proofs.lemmas.List.Elements.{All-filter}
+use Rattle.std.proofs.lemmas.List.Elements.{All-filter, recursion_from_All}
 use Rattle.grid_geom.specs.declared.Point.{Point}
 use Rattle.grid_geom.specs.declared.Edge.{Edge}
 use Rattle.grid_geom.specs.Area.{sweep_of, shoelace}
@@ -16,7 +17,8 @@ use Rattle.wind_law.specs.Chains.{back}
 use Rattle.wind_law.specs.Grid.{IsEdgeOnGrid}
 use Rattle.geom_check.specs.declared.kinds.Segment.{Segment}
 use Rattle.geom_check.specs.Accepted.{HasDifferentDomains}
-use Rattle.geom_check.specs.Boundary.{edge_of}
+use Rattle.geom_check.specs.Boundary.{boundary, edge_of, with_edge}
+use Rattle.geom_check.specs.declared.limits.TheConstants.{MOST_ROWS}
 use Rattle.geom_check.specs.Geometry.{PlanarMap, IsGeometry}
 use Rattle.state_law.specs.Region.{IsRegion}
 use Rattle.state_law.specs.State.{IsListed, front_edges, pair_edge}
@@ -24,15 +26,18 @@ use Rattle.size_field.specs.declared.cutting.TheConstants.{MOST_HALVINGS}
 use Rattle.size_field.specs.declared.pieces.Piece.{Piece}
 use Rattle.size_field.specs.Boundary.{piece_boundary, piece_edge, segment_of, IsPieceOnGrid}
 use Rattle.size_field.specs.Cutting.{bound, cut_at, on_both_sides, parts, parts_of, piece_of, pieces_from, pieces_of}
-use Rattle.size_field.specs.Parts.{IsPiece}
+use Rattle.size_field.specs.Parts.{IsPart, IsPiece}
 use Rattle.size_field.proofs.AllPieces.{all_pieces, pieces_are}
 use Rattle.size_field.proofs.Bounds.{turned_by}
 use Rattle.size_field.proofs.Regions.{boundary_region}
+use Rattle.size_field.proofs.Rows.{segments_parts}
+use Rattle.front_chain.specs.declared.opening.TheConstants.{SWEEP}
 use Rattle.front_chain.specs.Front.{IsOpening, numbered_from, or_zero}
 use Rattle.front_chain.proofs.Openings.{sweep_within}
 use Rattle.mesh_run.specs.Numbering.{ends_of, is_among, number_in}
 use Rattle.mesh_run.specs.Opening.{domain_points, front_from, mesh_points, numbered, opening_lines}
 use Rattle.mesh_run.specs.Runs.{opening_state}
+use Rattle.mesh_run.proofs.Areas.{pieces_area}
 use Rattle.mesh_run.proofs.Bounded.{AreAmong, ends_after, ends_listed, end_among, front_lines, number_within, read_back, start_among}
 use Rattle.mesh_run.proofs.Listed.{first_again}
 use Rattle.mesh_run.proofs.Named.{first_distinct, mesh_on_grid}
@@ -90,38 +95,47 @@ pieces_count cut n [] each = omega arith
 pieces_count cut n (s ∷ ss) each =
     omega (arith, each s, length-map (cut s) (piece_of n), length-append (map (piece_of n) (cut s)) (pieces_from cut (n + 1) ss), pieces_count cut (n + 1) ss each)
 
--- ---- what their boundary sweeps
--- a list of no more than so many edges, each of which sweeps at most 2^41
-record IsSmall (count : ℕ) (es : List Edge) : Type 0 where
-  few : length es ≤ count
-  swept : shoelace es ≤ℤ pos (count * 2199023255552)
+-- ---- how many edges a boundary in pieces has
+few_turned : (left right : Bool) (count : ℕ) (e : Edge) (rest : List Edge) → (left ≡ true → right ≡ true → ⊥) → length rest ≤ count → length (turned_by left right e ++ rest) ≤ suc count
+few_turned true true count e rest one few = absurd (one refl refl)
+few_turned true false count e rest one few = omega (arith, few)
+few_turned false true count e rest one few = omega (arith, few)
+few_turned false false count e rest one few = omega (arith, few)
 
-one_more : (count : ℕ) (e : Edge) (es : List Edge) → IsEdgeOnGrid e → IsSmall count es → IsSmall (suc count) (e ∷ es)
-one_more count e es on_grid rest = record { few = omega (arith, rest.few); swept = sum count (sweep_of e) (shoelace es) (sweep_within e.a e.b on_grid.a on_grid.b).greatest rest.swept }
-  where
-    sum : (n : ℕ) (s r : ℤ) → s ≤ℤ pos 2199023255552 → r ≤ℤ pos (n * 2199023255552) → (s +ℤ r) ≤ℤ pos (suc n * 2199023255552)
-    sum n s r h k = omega (arith, ints)
-
-turned_small : (left right : Bool) (count : ℕ) (e : Edge) (rest : List Edge) → (left ≡ true → right ≡ true → ⊥) → IsEdgeOnGrid e → IsSmall count rest → IsSmall (suc count) (turned_by left right e ++ rest)
-turned_small true true count e rest one on_grid small = absurd (one refl refl)
-turned_small true false count e rest one on_grid small = one_more count e rest on_grid small
-turned_small false true count e rest one on_grid small = one_more count (back e) rest (record { a = on_grid.b; b = on_grid.a }) small
-turned_small false false count e rest one on_grid small = record { few = omega (arith, small.few); swept = more count (shoelace rest) small.swept }
-  where
-    more : (n : ℕ) (r : ℤ) → r ≤ℤ pos (n * 2199023255552) → r ≤ℤ pos (suc n * 2199023255552)
-    more n r h = omega (arith, ints)
-
-boundary_small : (d : ℕ) (all : List Segment) (ps : List Piece) → All HasDifferentDomains all → AllByRecursion (IsPiece (length all)) ps → IsSmall (length ps) (piece_boundary d all ps)
-boundary_small d all [] two_sided pieces = record { few = omega arith; swept = omega (arith, ints) }
-boundary_small d all (p ∷ ps) two_sided pieces =
+boundary_few : (d : ℕ) (all : List Segment) (ps : List Piece) → All HasDifferentDomains all → AllByRecursion (IsPiece (length all)) ps → length (piece_boundary d all ps) ≤ length ps
+boundary_few d all [] two_sided pieces = omega arith
+boundary_few d all (p ∷ ps) two_sided pieces =
     let s = segment_of all p in
     let differ : HasDifferentDomains s = two_sided (p.segment - 1) (record { left = 0; right = 0; p = 0; q = 0; bc = 0; maxh = None }) (omega (arith, pieces.0.of_segment.first, pieces.0.of_segment.last)) in
-    turned_small (s.left == d) (s.right == d) (length ps) (piece_edge p) (piece_boundary d all ps) (λ i j. differ (eqb-true s.left d i ∙ sym (eqb-true s.right d j)))
-    pieces.0.part.on_grid (boundary_small d all ps two_sided pieces.1)
+    few_turned (s.left == d) (s.right == d) (length ps) (piece_edge p) (piece_boundary d all ps) (λ i j. differ (eqb-true s.left d i ∙ sym (eqb-true s.right d j))) (boundary_few d all ps two_sided pieces.1)
 
-read_as_zero : (z : ℤ) (n : ℕ) → z ≤ℤ pos n → or_zero z ≤ n
-read_as_zero (pos m) n h = omega (arith, ints)
-read_as_zero (negsuc m) n h = omega arith
+-- ---- what a boundary in segments sweeps: at most SWEEP a segment
+edge_sweep : (e : Edge) → IsEdgeOnGrid e → sweep_of e ≤ℤ SWEEP
+edge_sweep e on_grid = (sweep_within e.a e.b on_grid.a on_grid.b).greatest
+
+one_more : (count : ℕ) (s r : ℤ) → s ≤ℤ SWEEP → r ≤ℤ (SWEEP *ℤ pos count) → (s +ℤ r) ≤ℤ (SWEEP *ℤ pos (suc count))
+one_more count s r h k = omega (arith, ints, h, k)
+
+none_more : (count : ℕ) (r : ℤ) → r ≤ℤ (SWEEP *ℤ pos count) → r ≤ℤ (SWEEP *ℤ pos (suc count))
+none_more count r h = omega (arith, ints, h)
+
+swept_turned : (left right : Bool) (count : ℕ) (e : Edge) (rest : List Edge) → (left ≡ true → right ≡ true → ⊥) → IsEdgeOnGrid e → shoelace rest ≤ℤ (SWEEP *ℤ pos count)
+    → shoelace (with_edge left e (with_edge right (back e) rest)) ≤ℤ (SWEEP *ℤ pos (suc count))
+swept_turned true true count e rest one on_grid h = absurd (one refl refl)
+swept_turned true false count e rest one on_grid h = one_more count (sweep_of e) (shoelace rest) (edge_sweep e on_grid) h
+swept_turned false true count e rest one on_grid h = one_more count (sweep_of (back e)) (shoelace rest) (edge_sweep (back e) (record { a = on_grid.b; b = on_grid.a })) h
+swept_turned false false count e rest one on_grid h = none_more count (shoelace rest) h
+
+boundary_swept : (points : List Point) (d : ℕ) (ss : List Segment) → AllByRecursion HasDifferentDomains ss → AllByRecursion (λ s. IsPart (edge_of points s)) ss → shoelace (boundary points d ss) ≤ℤ (SWEEP *ℤ pos (length ss))
+boundary_swept points d [] differ parts = omega (arith, ints)
+boundary_swept points d (s ∷ ss) differ parts =
+    swept_turned (s.left == d) (s.right == d) (length ss) (edge_of points s) (boundary points d ss) (λ i j. differ.0 (eqb-true s.left d i ∙ sym (eqb-true s.right d j)))
+    parts.0.on_grid (boundary_swept points d ss differ.1 parts.1)
+
+-- an area of no more than so many sweeps, and so many lines beside it, leave room in 64 bits
+room : (z : ℤ) (lines pieces segments : ℕ) → z ≤ℤ (SWEEP *ℤ pos segments) → lines ≤ pieces → pieces ≤ segments * 256 → segments ≤ MOST_ROWS → lines + 4 * or_zero z ≤ 2 ^ 64 - 2
+room (pos m) lines pieces segments h i j k = omega (arith, ints, h, i, j, k)
+room (negsuc m) lines pieces segments h i j k = omega (arith, i, j, k)
 
 -- ---- all of it
 pub begun : (g : PlanarMap) (greatest grading d : ℕ) → IsGeometry g → 0 < d → IsOpening (domain_points d g.segments (pieces_of g greatest grading)) (opening_lines d g.segments (pieces_of g greatest grading))
@@ -129,17 +143,20 @@ unfolding most
 begun g greatest grading d h above =
     let pieces = pieces_of g greatest grading in let es = piece_boundary d g.segments pieces in
     let lines = opening_lines d g.segments pieces in
-    let small = boundary_small d g.segments pieces h.planar.sides (pieces_are g greatest grading h) in
     let many : length pieces ≤ length g.segments * 256 =
     pieces_count (parts_of g greatest grading) 1 g.segments (λ s. parts_count (bound g greatest grading s) MOST_HALVINGS (edge_of g.points s).a (edge_of g.points s).b) in
-    let swept : or_zero (shoelace (map (pair_edge (domain_points d g.segments pieces)) lines)) ≤ length pieces * 2199023255552 =
-    subst (λ (fs : List Edge). or_zero (shoelace fs) ≤ length pieces * 2199023255552) (sym (lines_are d g.segments pieces)) (read_as_zero (shoelace es) (length pieces * 2199023255552) small.swept) in
-    let as_many : length lines ≡ length es = length-map es (λ e. (number_in (domain_points d g.segments pieces) e.a, number_in (domain_points d g.segments pieces) e.b)) in
+    let area : shoelace (boundary g.points d g.segments) ≡ shoelace (map (pair_edge (domain_points d g.segments pieces)) lines) =
+    sym (pieces_area g greatest grading d h) ∙ ap shoelace (sym (lines_are d g.segments pieces)) in
+    let few : length lines ≤ length pieces = subst (λ (n : ℕ). n ≤ length pieces) (sym (length-map es (λ e. (number_in (domain_points d g.segments pieces) e.a, number_in (domain_points d g.segments pieces) e.b))))
+    (boundary_few d g.segments pieces h.planar.sides (pieces_are g greatest grading h)) in
+    let swept : shoelace (boundary g.points d g.segments) ≤ℤ (SWEEP *ℤ pos (length g.segments)) =
+    boundary_swept g.points d g.segments (recursion_from_All HasDifferentDomains g.segments h.planar.sides) (segments_parts g h) in
     record {
       numbered = record { different = distinct_points d g.segments pieces; lines_listed = listed_lines (domain_points d g.segments pieces) 1 es (ends_listed d g.segments pieces) };
       on_grid = points_on_grid g greatest grading d h;
       region = subst IsRegion (sym (lines_are d g.segments pieces)) (boundary_region g greatest grading d h above);
-      bounded = omega (arith, as_many, small.few, many, swept, h.few_segments);
+      bounded = subst (λ (z : ℤ). length lines + 4 * or_zero z ≤ 2 ^ 64 - 2) area
+          (room (shoelace (boundary g.points d g.segments)) (length lines) (length pieces) (length g.segments) swept few many h.few_segments);
     }
 
 -- the front of an opening state is the domain's boundary in pieces

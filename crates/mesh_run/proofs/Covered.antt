@@ -71,7 +71,7 @@ adds_up g options d st h r q off =
     turned f e s i = omega (arith, ints)
 
 -- ---- one application after another
-rule_at : (rules : List Rule) (k : ℕ) (rule : Rule) → CanPrint rules → slice_get rules k ≡ Some rule → IsRule rule
+pub rule_at : (rules : List Rule) (k : ℕ) (rule : Rule) → CanPrint rules → slice_get rules k ≡ Some rule → IsRule rule
 rule_at rules k rule can e = subst IsRule (get_or_from_slice_get rules k rule rule e) (All-from_recursion IsRule rules can.1 k rule (slice_get_within rules k rule e))
 
 -- the next application may be made, and has an element

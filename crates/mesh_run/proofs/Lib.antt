@@ -38,3 +38,23 @@ pub mod OpenedRun
 pub mod Zipped
 -- StillNone: a refusal stays true.
 pub mod StillNone
+-- Conforming: the states of all domains conform.
+pub mod Conforming
+-- Strides: pieces lead along their segment.
+pub mod Strides
+-- Made: new points are corners of elements.
+pub mod Made
+-- WholePlaces: the mesh's points have different places.
+pub mod WholePlaces
+-- WholeSides: sides and rows agree.
+pub mod WholeSides
+-- DoneWhole: the mesh of a run that is done is whole.
+pub mod DoneWhole
+-- WholeRows: the edge rows walk the segments.
+pub mod WholeRows
+-- Touched: boxes of elements.
+pub mod HeldAreas
+-- What is left of refusals.
+pub mod Forgotten
+pub mod Noted
+pub mod StillRemembered

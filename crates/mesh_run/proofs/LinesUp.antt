@@ -1,15 +1,15 @@
 -- A search that takes the front lines by rising numbers passes no line: between a line and the least one above it no number is that of a line.
-use Rattle.std.proofs.Common.{◌≡◌, ℕ, zero, suc, ◌<◌, ◌≤◌, ◌⊎◌, inl, inr, Bool, true, false, cond, List, [], ◌∷◌, length, slice_index_or, refl, sym, ap, ◌∙◌, subst, Option, Some, None, nat_lt, is_some, arith}
+use Rattle.std.proofs.Common.{◌≡◌, ℕ, zero, suc, ◌-◌, ◌<◌, ◌≤◌, ◌⊎◌, inl, inr, Bool, true, false, cond, List, [], ◌∷◌, length, slice_index_or, refl, sym, ap, subst, Option, Some, None, nat_lt, is_some, arith}
 use Rattle.std.specs.Option.{option_map}
-use Rattle.std.specs.List.{AllByRecursion, find}
-use Rattle.rule_reader.specs.declared.rule.Rule.{Rule}
-use Rattle.size_field.specs.Size.{SizeField}
+use Rattle.std.specs.List.{AllByRecursion, Contains, find}
 use Rattle.state_law.specs.State.{State, AreRising}
 use Rattle.front_chain.specs.Front.{number_above, line_at}
 use Rattle.admission.specs.Around.{IsThere, ahead}
 use Rattle.admission.proofs.Ahead.{next_ahead}
 use Rattle.rule_match.specs.Least.{HasNone}
+use Rattle.mesh_run.specs.Remembered.{AreNoFewer, ArePassed, AreRemembered}
 use Rattle.mesh_run.specs.RunState.{DoesPrecede}
+use Rattle.mesh_run.specs.Steps.{RunSetting}
 
 abbrev Triple : Type 0
 Triple = ℕ × ℕ × ℕ
@@ -52,40 +52,6 @@ positive_at [] k d h l = absurd (omega (arith, l))
 positive_at (line ∷ lines) zero d h l = h.0
 positive_at (line ∷ lines) (suc k) d h l = positive_at lines k d h.1 (omega (arith, l))
 
-module _ (sizes : SizeField) (rules : List Rule) (class : ℕ) (st : State) (next : ℕ) (rising : AreRising st.front next) where
-  -- the number of a front line stands in the list
-  number_is : (line : Triple) (k : ℕ) → slice_index_or st.front k line ≡ line → (slice_index_or st.front k line).0 ≡ line.0
-  number_is line k e = ap (λ (l : Triple). l.0) e
-
-  -- a number between a line and the least one above is that of no line
-  pub none_between : (after n : ℕ) → after < n → DoesPrecede n (number_above st.front after) → HasNone sizes st rules n class
-  none_between after n h p = record {
-    none = λ t o c.
-        let e = number_is t.line o.on_front.0 o.on_front.2 ∙ o.same_line in
-        subst (λ (m : ℕ). after < m → IsNotBefore m (number_above st.front after)) e (not_before st.front next after o.on_front.0 t.line rising o.on_front.1) h p;
-  }
-
-  -- nor is one before the first line
-  pub none_before : (n : ℕ) → AllByRecursion (λ line. 1 ≤ line.0) st.front → DoesPrecede n (number_above st.front 0) → HasNone sizes st rules n class
-  none_before n q p = record {
-    none = λ t o c.
-        let e = number_is t.line o.on_front.0 o.on_front.2 ∙ o.same_line in
-        let l : 1 ≤ n = subst (λ (m : ℕ). 1 ≤ m) e (positive_at st.front o.on_front.0 t.line q o.on_front.1) in
-        (none_between 0 n (omega (arith, l)) p).none t o c;
-  }
-
-  -- where none of the lines before this one has a candidate, nor this one, none before the next one has
-  pub none_passed : (line : ℕ) → ((n : ℕ) → n < line → HasNone sizes st rules n class) → HasNone sizes st rules line class → (n : ℕ) → DoesPrecede n (number_above st.front line) → HasNone sizes st rules n class
-  none_passed line before here n p = by (compared n line)
-    where
-      compared : (n line : ℕ) → ((n < line) ⊎ (n ≡ line)) ⊎ (line < n)
-      compared n line = grind arith
-
-      by : ((n < line) ⊎ (n ≡ line)) ⊎ (line < n) → HasNone sizes st rules n class
-      by (inl (inl l)) = before n l
-      by (inl (inr e)) = subst (λ (m : ℕ). HasNone sizes st rules m class) (sym e) here
-      by (inr l) = none_between line n l p
-
 -- fewer lines are ahead of the least line above one
 pub fewer_ahead : (lines : List Triple) (next line : ℕ) → AreRising lines next → is_some (line_at lines line) ≡ true → length (ahead lines (number_above lines line)) < length (ahead lines (Some line))
 fewer_ahead lines next line r t = by (line_at lines line) refl t
@@ -102,3 +68,53 @@ still_fewer lines next line before after r t b a =
     let here : is_some (line_at lines line) ≡ true = subst (IsThere lines) b t in
     subst (λ (o : Option ℕ). length (ahead lines o) < length (ahead lines before)) (sym a)
     (subst (λ (o : Option ℕ). length (ahead lines (number_above lines line)) < length (ahead lines o)) (sym b) (fewer_ahead lines next line r here))
+
+-- ---- lines that were refused one after another
+-- each line before the number was refused at the class
+abbrev pub AreNotedTo : List Triple → List ℕ → ℕ → Option ℕ → Type 0
+AreNotedTo front least class o = (line : Triple) → Contains front line → DoesPrecede line.0 o → class < slice_index_or least line.0 0
+
+-- a line before the least one above a number isn't above the number
+no_more : (front : List Triple) (next after : ℕ) (line : Triple) → AreRising front next → Contains front line → DoesPrecede line.0 (number_above front after) → line.0 ≤ after
+no_more front next after line r c p = by (compared line.0 after)
+  where
+    compared : (n after : ℕ) → (n ≤ after) ⊎ (after < n)
+    compared n after = grind arith
+
+    number : (slice_index_or front c.0 line).0 ≡ line.0
+    number = ap (λ (l : Triple). l.0) c.2
+
+    by : (line.0 ≤ after) ⊎ (after < line.0) → line.0 ≤ after
+    by (inl l) = l
+    by (inr l) = absurd (subst (λ (m : ℕ). after < m → IsNotBefore m (number_above front after)) number (not_before front next after c.0 line r c.1) l p)
+
+module _ (front : List Triple) (next : ℕ) (rising : AreRising front next) (class : ℕ) where
+  -- at the start: those below a number were passed
+  pub noted_at_start : (least : List ℕ) (number after : ℕ) → AllByRecursion (λ line. 1 ≤ line.0) front → ArePassed front least class number → after ≡ number - 1 → AreNotedTo front least class (number_above front after)
+  noted_at_start least number after positive passed e line c p = passed line c (below line.0 number after (no_more front next after line rising c p) e one)
+    where
+      below : (n number after : ℕ) → n ≤ after → after ≡ number - 1 → 1 ≤ n → n < number
+      below n number after l e f = omega (arith, e)
+
+      one : 1 ≤ line.0
+      one = subst (λ (l : Triple). 1 ≤ l.0) c.2 (positive_at front c.0 line positive c.1)
+
+  -- one more is refused
+  pub noted_on : (before after : List ℕ) (line : ℕ) → AreNotedTo front before class (Some line) → AreNoFewer before after → class < slice_index_or after line 0 → AreNotedTo front after class (number_above front line)
+  noted_on before after line h fewer here other c p = by (compared other.0 line (no_more front next line other rising c p))
+    where
+      compared : (n line : ℕ) → n ≤ line → (n < line) ⊎ (n ≡ line)
+      compared n line l = grind arith
+
+      longer : (n a b : ℕ) → n < a → a ≤ b → n < b
+      longer n a b h k = omega arith
+
+      by : (other.0 < line) ⊎ (other.0 ≡ line) → class < slice_index_or after other.0 0
+      by (inl l) = longer class (slice_index_or before other.0 0) (slice_index_or after other.0 0) (h other c l) (fewer.each other.0)
+      by (inr e) = subst (λ (n : ℕ). class < slice_index_or after n 0) (sym e) here
+
+-- what was refused before a number has no candidate
+pub none_noted : (s : RunSetting) (st : State) (least : List ℕ) (class : ℕ) (o : Option ℕ) → 1 ≤ class → AreRemembered least s st → AreNotedTo st.front least class o → (n : ℕ) → DoesPrecede n o → HasNone s.sizes st s.rules n class
+none_noted s st least class o first h noted n p = record {
+  none = λ t a c. (h.none n class first (subst (λ (m : ℕ). class < slice_index_or least m 0) a.same_line (noted t.line a.on_front (subst (λ (m : ℕ). DoesPrecede m o) (sym a.same_line) p)))).none t a c;
+}

@@ -44,7 +44,7 @@ rows_within ps n segments (p ∷ pieces) le h =
     (rows_within ps n segments pieces le (ends_after (piece_edge p) es ps h))
 
 -- the ends of pieces are mesh points
-pieces_listed : (pieces : List Piece) → AreAmong (ends_of (map piece_edge pieces)) (mesh_points pieces)
+pub pieces_listed : (pieces : List Piece) → AreAmong (ends_of (map piece_edge pieces)) (mesh_points pieces)
 pieces_listed pieces = record { kept = λ x h. ap (λ (f : Point → Bool). f x) (among_first (ends_of (map piece_edge pieces))) ∙ h }
 
 -- the edge rows of a run's mesh name points of the mesh

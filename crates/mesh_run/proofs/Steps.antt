@@ -42,7 +42,7 @@ follow w [] n l m = tt
 follow w (ns ∷ els) n l m =
     (m.0, follow (glued w ns) els (glued_numbered w ns n l.0) l.1 (subst (MayAllBeGlued (map (corners_of w.points) els)) (sym (glued_edges w ns n l.0)) m.1))
 
-reached_glued : (b : List Edge) (w : State) (ns : List ℕ) → IsReached b w → AreListed w.points ns → MayBeGlued (corners_of w.points ns) (front_at w) → IsReached b (glued w ns)
+pub reached_glued : (b : List Edge) (w : State) (ns : List ℕ) → IsReached b w → AreListed w.points ns → MayBeGlued (corners_of w.points ns) (front_at w) → IsReached b (glued w ns)
 reached_glued b w ns r l m = record {
   numbered = glued_numbered w ns r.numbered l;
   on_grid = r.on_grid;
@@ -112,10 +112,10 @@ area_after b st a r m =
 
 -- ---- candidates
 -- the elements of a rule, each three of so many points
-abbrev AreTriangles : ℕ → List (List ℕ) → Type 0
+abbrev pub AreTriangles : ℕ → List (List ℕ) → Type 0
 AreTriangles count els = AllByRecursion (λ e. (length e ≡ 3) × AllByRecursion (Names count) e) els
 
-named_elements : (points more : List Point) (mapped : List ℕ) (els : List (List ℕ)) → AreListed points mapped → AreTriangles (length mapped + length more) els
+pub named_elements : (points more : List Point) (mapped : List ℕ) (els : List (List ℕ)) → AreListed points mapped → AreTriangles (length mapped + length more) els
     → map (corners_of (points ++ more)) (map (map (number_of points more mapped)) els) ≡ map (corners_of (corners_of points mapped ++ more)) els
 named_elements points more mapped [] l h = refl
 named_elements points more mapped (ns ∷ els) l h = λ i. corners_at points more mapped ns l h.0.1 i ∷ named_elements points more mapped els l h.1 i

@@ -8,8 +8,6 @@ use Rattle.rule_reader.specs.declared.rule.Rule.{Rule}
 use Rattle.rule_maps.specs.Frame.{LocalFrame}
 use Rattle.size_field.specs.Size.{SizeField}
 use Rattle.state_law.specs.Gluing.{glue_all, MayAllBeGlued}
-use Rattle.state_law.specs.Kept.{IsKept}
-use Rattle.state_law.specs.Saved.{AreInBox}
 use Rattle.state_law.specs.Refusal.{IsFront}
 use Rattle.state_law.specs.Reach.{AreAlikeIn}
 use Rattle.state_law.specs.State.{State, IsListed, IsNumbered, corners_of, front_edges, glued}
@@ -20,7 +18,7 @@ use Rattle.admission.specs.Admission.{glued_on, MayFollow}
 use Rattle.admission.proofs.Order.{same_points}
 use Rattle.rule_match.specs.declared.application.Application.{Application}
 use Rattle.rule_match.specs.Least.{HasNone}
-use Rattle.rule_match.specs.Near.{AreBoxesApart, IsAlikeNear, IsBox, IsCoveredBy, IsStayingLine, reach_lo, reach_hi}
+use Rattle.rule_match.specs.Near.{IsAlikeNear, IsCoveredBy, IsStayingLine, reach_lo, reach_hi}
 use Rattle.rule_match.proofs.FarAway.{alike_after}
 use Rattle.rule_match.proofs.NearBack.{none_later}
 use Rattle.mesh_run.specs.Reached.{IsReached, MayBeApplied, front_at}
@@ -70,11 +68,11 @@ pub still_none : (sizes : SizeField) (rules : List Rule) (n class : ℕ) (b : Li
 still_none sizes rules n class b st a line f first covered r m stays h none = none_later sizes rules n class st (applied st a) a.made line f first covered stays (alike_on (reach_lo n f) (reach_hi n f) b st a r m h) none
 
 -- ---- lines that stay
-abbrev Triple : Type 0
+abbrev pub Triple : Type 0
 Triple = ℕ × ℕ × ℕ
 
 -- the line was there, or has a number from `next` on
-abbrev IsOldOrNew : List Triple → ℕ → Triple → Type 0
+abbrev pub IsOldOrNew : List Triple → ℕ → Triple → Type 0
 IsOldOrNew old next line = Contains old line ⊎ (next ≤ line.0)
 
 one_on : (old : List Triple) (first : ℕ) (front : List Triple) (next : ℕ) (s : ℕ × ℕ) → first ≤ next → AllByRecursion (IsOldOrNew old first) front → AllByRecursion (IsOldOrNew old first) (glue_line front next s)
@@ -84,7 +82,7 @@ one_on old first (line ∷ front) next s l h = elim (does_join line s) as (λ (b
   | false ↦ (h.0, one_on old first front next s l h.1)
 ]
 
-next_rises : (front : List Triple) (next : ℕ) (s : ℕ × ℕ) → next ≤ next_after front next s
+pub next_rises : (front : List Triple) (next : ℕ) (s : ℕ × ℕ) → next ≤ next_after front next s
 next_rises front next s = by (list_any (λ line. does_join line s) front)
   where
     by : (b : Bool) → next ≤ cond b next (next + 1)
@@ -95,11 +93,11 @@ lines_on : (old : List Triple) (first : ℕ) (front : List Triple) (next : ℕ) 
 lines_on old first front next [] l h = (h, l)
 lines_on old first front next (s ∷ ss) l h = let more = next_rises front next s in lines_on old first (glue_line front next s) (next_after front next s) ss (omega arith) (one_on old first front next s l h)
 
-elements_on : (old : List Triple) (first : ℕ) (w : State) (els : List (List ℕ)) → first ≤ w.next → AllByRecursion (IsOldOrNew old first) w.front → AllByRecursion (IsOldOrNew old first) (glued_on w els).front
+pub elements_on : (old : List Triple) (first : ℕ) (w : State) (els : List (List ℕ)) → first ≤ w.next → AllByRecursion (IsOldOrNew old first) w.front → AllByRecursion (IsOldOrNew old first) (glued_on w els).front
 elements_on old first w [] l h = h
 elements_on old first w (ns ∷ els) l h = let r = lines_on old first w.front w.next (number_sides ns) l h in elements_on old first (glued w ns) els r.1 r.0
 
-all_old : (old : List Triple) (first : ℕ) (front : List Triple) → ((line : Triple) → Contains front line → Contains old line) → AllByRecursion (IsOldOrNew old first) front
+pub all_old : (old : List Triple) (first : ℕ) (front : List Triple) → ((line : Triple) → Contains front line → Contains old line) → AllByRecursion (IsOldOrNew old first) front
 all_old old first [] f = tt
 all_old old first (line ∷ front) f = (inl (f line (0, omega arith, refl)), all_old old first front (λ other c. f other (suc c.0, omega (arith, c.1), c.2)))
 
@@ -122,10 +120,10 @@ same_number_line front next a b r x y e = at front next r x.0 x.1 x.2 y.0 y.1 y.
     at (line ∷ front) next r (suc i) w f zero v g = absurd (below line.0 a.0 (above line front i a r.0 (omega (arith, w)) f) (ap (λ (z : Triple). z.0) g ∙ sym e))
     at (line ∷ front) next r (suc i) w f (suc j) v g = at front next r.2 i (omega (arith, w)) f j (omega (arith, v)) g
 
-contained : {X : Type 0} (P : X → Type 0) (xs : List X) (x : X) → AllByRecursion P xs → Contains xs x → P x
+pub contained : {X : Type 0} (P : X → Type 0) (xs : List X) (x : X) → AllByRecursion P xs → Contains xs x → P x
 contained P xs x h c = All-contains P xs x (All-from_recursion P xs h) c
 
-below_next : (front : List Triple) (next : ℕ) (line : Triple) → AreRising front next → Contains front line → line.0 < next
+pub below_next : (front : List Triple) (next : ℕ) (line : Triple) → AreRising front next → Contains front line → line.0 < next
 below_next front next line r c = at front r c.0 c.1 c.2
   where
     at : (front : List Triple) → AreRising front next → (k : ℕ) → k < length front → slice_index_or front k line ≡ line → line.0 < next

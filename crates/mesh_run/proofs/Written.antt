@@ -41,7 +41,7 @@ use Rattle.mesh_run.proofs.Numbers.{AreListed, point_kept}
 use Rattle.mesh_run.proofs.Steps.{reached_opening}
 
 -- ---- the state after applications, in all
-elements_on : (w : State) (els : List (List ℕ)) → (glued_on w els).elements ≡ w.elements ++ els
+pub elements_on : (w : State) (els : List (List ℕ)) → (glued_on w els).elements ≡ w.elements ++ els
 elements_on w [] = nothing w.elements
   where
     nothing : (xs : List (List ℕ)) → xs ≡ xs ++ []
@@ -49,10 +49,10 @@ elements_on w [] = nothing w.elements
     nothing (x ∷ xs) = ap (λ (ys : List (List ℕ)). x ∷ ys) (nothing xs)
 elements_on w (ns ∷ els) = elements_on (glued w ns) els ∙ append_assoc w.elements (ns ∷ []) els
 
-abbrev all_elements : List Application → List (List ℕ)
+abbrev pub all_elements : List Application → List (List ℕ)
 all_elements applications = flat_map (λ a. a.elements) applications
 
-elements_after : (st : State) (more : List Application) → (state_after st more).elements ≡ st.elements ++ all_elements more
+pub elements_after : (st : State) (more : List Application) → (state_after st more).elements ≡ st.elements ++ all_elements more
 elements_after st [] = nothing st.elements
   where
     nothing : (xs : List (List ℕ)) → xs ≡ xs ++ []
@@ -61,10 +61,10 @@ elements_after st [] = nothing st.elements
 elements_after st (a ∷ more) =
     elements_after (applied st a) more ∙ ap (λ (els : List (List ℕ)). els ++ all_elements more) (elements_on (with_points st a.made) a.elements) ∙ append_assoc st.elements a.elements (all_elements more)
 
-abbrev all_made : List Application → List Point
+abbrev pub all_made : List Application → List Point
 all_made applications = flat_map (λ a. a.made) applications
 
-points_after : (st : State) (more : List Application) → (state_after st more).points ≡ st.points ++ all_made more
+pub points_after : (st : State) (more : List Application) → (state_after st more).points ≡ st.points ++ all_made more
 points_after st [] = nothing st.points
   where
     nothing : (xs : List Point) → xs ≡ xs ++ []
@@ -75,11 +75,11 @@ points_after st (a ∷ more) =
 
 -- ---- a domain's point in the mesh
 -- the points at the opening are mesh points
-record IsRunOf (mesh : List Point) (r : DomainRun) : Type 0 where
-  few : r.opened ≤ length r.points
-  among : (n : ℕ) → 1 ≤ n → n ≤ r.opened → is_among mesh (point_at r.points n) ≡ true
+pub record IsRunOf (mesh : List Point) (r : DomainRun) : Type 0 where
+  pub few : r.opened ≤ length r.points
+  pub among : (n : ℕ) → 1 ≤ n → n ≤ r.opened → is_among mesh (point_at r.points n) ≡ true
 
-old_place : (mesh more : List Point) (p : Point) → is_among mesh p ≡ true → point_at (mesh ++ more) (number_in mesh p) ≡ p
+pub old_place : (mesh more : List Point) (p : Point) → is_among mesh p ≡ true → point_at (mesh ++ more) (number_in mesh p) ≡ p
 old_place mesh more p among = let named = number_within mesh p among in point_kept mesh more (number_in mesh p) (named.first, named.last) ∙ at_number mesh p among
 
 new_place : (first points later : List Point) (opened n at : ℕ) → opened < n → n ≤ length points → at ≡ length first + (n - opened) → point_at (first ++ (drop opened points ++ later)) at ≡ point_at points n
@@ -110,7 +110,7 @@ place_in_mesh mesh done later r n run l = by (leb_tells n r.opened)
         ap (λ (b : Bool). point_at ((mesh ++ done) ++ (new_points r ++ later)) (number b)) h.0
         ∙ new_place (mesh ++ done) r.points later r.opened n (length mesh + length done + (n - r.opened)) h.1 l.1 (ap (λ (k : ℕ). k + (n - r.opened)) (sym (length-append mesh done)))
 
-corners_in_mesh : (mesh done later : List Point) (r : DomainRun) (ns : List ℕ) → IsRunOf mesh r → AreListed r.points ns
+pub corners_in_mesh : (mesh done later : List Point) (r : DomainRun) (ns : List ℕ) → IsRunOf mesh r → AreListed r.points ns
     → corners_of ((mesh ++ done) ++ (new_points r ++ later)) (map (mesh_number mesh (length mesh + length done) r) ns) ≡ corners_of r.points ns
 corners_in_mesh mesh done later r [] run l = refl
 corners_in_mesh mesh done later r (n ∷ ns) run l = λ i. place_in_mesh mesh done later r n run l.0 i ∷ corners_in_mesh mesh done later r ns run l.1 i
@@ -135,7 +135,7 @@ none_of_it d mesh before r (ns ∷ els) h =
     ∙ none_of_it d mesh before r els h
 
 -- one application after another is all elements
-in_one : (mesh : List Point) (before : ℕ) (r : DomainRun) (more : List Application) → flat_map (λ (a : Application). map (mesh_element mesh before r) a.elements) more ≡ map (mesh_element mesh before r) (all_elements more)
+pub in_one : (mesh : List Point) (before : ℕ) (r : DomainRun) (more : List Application) → flat_map (λ (a : Application). map (mesh_element mesh before r) a.elements) more ≡ map (mesh_element mesh before r) (all_elements more)
 in_one mesh before r [] = refl
 in_one mesh before r (a ∷ more) =
     ap (λ (es : List MeshElement). map (mesh_element mesh before r) a.elements ++ es) (in_one mesh before r more) ∙ sym (map-append (mesh_element mesh before r) a.elements (all_elements more))
@@ -150,7 +150,7 @@ elements_split mesh before (r ∷ done) rest =
     ap (λ (es : List MeshElement). elements_of mesh before r ++ es) (elements_split mesh (before + length (new_points r)) done rest ∙ ap (λ (n : ℕ). elements_from mesh (before + length (new_points r)) done ++ elements_from mesh n rest) count)
     ∙ sym (append_assoc (elements_of mesh before r) (elements_from mesh (before + length (new_points r)) done) (elements_from mesh (before + length (flat_map new_points (r ∷ done))) rest))
 
-others_none : (d : ℕ) (mesh : List Point) (before : ℕ) (rs : List DomainRun) → AllByRecursion (λ r. (r.domain == d) ≡ false) rs → of_domain d (elements_from mesh before rs) ≡ []
+pub others_none : (d : ℕ) (mesh : List Point) (before : ℕ) (rs : List DomainRun) → AllByRecursion (λ r. (r.domain == d) ≡ false) rs → of_domain d (elements_from mesh before rs) ≡ []
 others_none d mesh before [] h = refl
 others_none d mesh before (r ∷ rs) h =
     filter-append (λ (e : MeshElement). e.domain == d) (elements_of mesh before r) (elements_from mesh (before + length (new_points r)) rs)
@@ -171,13 +171,13 @@ one_domain d mesh done later r here before after =
     nothing [] = refl
     nothing (x ∷ xs) = ap (λ (ys : List MeshElement). x ∷ ys) (nothing xs)
 
-elements_placed : (mesh done later : List Point) (r : DomainRun) (els : List (List ℕ)) → IsRunOf mesh r → AllByRecursion (AreListed r.points) els
+pub elements_placed : (mesh done later : List Point) (r : DomainRun) (els : List (List ℕ)) → IsRunOf mesh r → AllByRecursion (AreListed r.points) els
     → places ((mesh ++ done) ++ (new_points r ++ later)) (map (mesh_element mesh (length mesh + length done) r) els) ≡ map (corners_of r.points) els
 elements_placed mesh done later r [] run l = refl
 elements_placed mesh done later r (ns ∷ els) run l = λ i. corners_in_mesh mesh done later r ns run l.0 i ∷ elements_placed mesh done later r els run l.1 i
 
 -- ---- one domain's run
-listed_item : (ps : List Point) (i : ℕ) (d : Point) → i < length ps → is_among ps (slice_index_or ps i d) ≡ true
+pub listed_item : (ps : List Point) (i : ℕ) (d : Point) → i < length ps → is_among ps (slice_index_or ps i d) ≡ true
 listed_item [] i d h = absurd (omega (arith, h))
 listed_item (p ∷ ps) zero d h = ap (λ (b : Bool). b || is_among ps p) (same_itself p)
 listed_item (p ∷ ps) (suc i) d h = or_last (same_point (slice_index_or ps i d) p) (is_among ps (slice_index_or ps i d)) (listed_item ps i d (omega (arith, h)))
@@ -186,7 +186,7 @@ listed_item (p ∷ ps) (suc i) d h = or_last (same_point (slice_index_or ps i d)
     or_last true b e = refl
     or_last false b e = e
 
-run_of : (g : PlanarMap) (rules : List Rule) (options : Options) (d : ℕ) (r : DomainRun) → IsDomainRun g rules options d r → IsRunOf (mesh_points (pieces_by g options)) r
+pub run_of : (g : PlanarMap) (rules : List Rule) (options : Options) (d : ℕ) (r : DomainRun) → IsDomainRun g rules options d r → IsRunOf (mesh_points (pieces_by g options)) r
 run_of g rules options d r run =
     let mesh = mesh_points (pieces_by g options) in let st = opening_of g options d in
     let points : r.points ≡ st.points ++ all_made r.applications = run.points ∙ points_after st r.applications in
@@ -199,12 +199,12 @@ run_of g rules options d r run =
           ap (is_among mesh) same ∙ among (n - 1) (record { x = pos 0; y = pos 0 }) (omega (arith, first, within));
     }
 
-all_listed : (n : ℕ) (more : List Application) → AreCorners n more → AllByRecursion (λ ns. AllByRecursion (IsListed n) ns) (all_elements more)
+pub all_listed : (n : ℕ) (more : List Application) → AreCorners n more → AllByRecursion (λ ns. AllByRecursion (IsListed n) ns) (all_elements more)
 all_listed n [] h = tt
 all_listed n (a ∷ more) h = all_append (λ ns. AllByRecursion (IsListed n) ns) a.elements (all_elements more) h.0 (all_listed n more h.1)
 
 -- ---- all domains
-apart_number : (m n : ℕ) → (m ≡ n → ⊥) → (m == n) ≡ false
+pub apart_number : (m n : ℕ) → (m ≡ n → ⊥) → (m == n) ≡ false
 apart_number m n differ = by (m == n) refl
   where
     by : (b : Bool) → (m == n) ≡ b → b ≡ false
@@ -222,45 +222,62 @@ module _ (g : PlanarMap) (rules : List Rule) (options : Options) (w : WholeRun) 
   abbrev mesh : List Point
   mesh = mesh_points w.pieces
 
-  in_mesh : (done : List DomainRun) (d : ℕ) (r : DomainRun) (later : List DomainRun) → w.domains ≡ done ++ r ∷ later → 0 < d → IsDomainRun g rules options d r → AllByRecursion (λ q. (q.domain == d) ≡ false) done → AllByRecursion (λ q. (q.domain == d) ≡ false) later
-      → AddUp g d (elements_in d (mesh_of_run w g.segments)) (front_edges r)
-  in_mesh done d r later whole above one before after =
+  -- the mesh's points, with those of one run apart
+  pub points_split : (done : List DomainRun) (r : DomainRun) (later : List DomainRun) → w.domains ≡ done ++ r ∷ later → whole_points w ≡ (mesh ++ flat_map new_points done) ++ (new_points r ++ flat_map new_points later)
+  points_split done r later whole =
+      ap (λ (rs : List DomainRun). mesh ++ flat_map new_points rs) whole ∙ ap (λ (ps : List Point). mesh ++ ps) (flat_map-append new_points done (r ∷ later)) ∙ sym (append_assoc mesh (flat_map new_points done) (new_points r ++ flat_map new_points later))
+
+  -- the mesh's elements of a run's domain, by places, are those of its last state
+  pub mesh_elements : (done : List DomainRun) (d : ℕ) (r : DomainRun) (later : List DomainRun) → w.domains ≡ done ++ r ∷ later → 0 < d → IsDomainRun g rules options d r → AllByRecursion (λ q. (q.domain == d) ≡ false) done → AllByRecursion (λ q. (q.domain == d) ≡ false) later
+      → elements_in d (mesh_of_run w g.segments) ≡ elements_at (state_after (opening_of g options d) r.applications)
+  mesh_elements done d r later whole above one before after =
       let b = piece_boundary d g.segments (pieces_by g options) in let s = setting_of g rules options d in let st = opening_of g options d in
       let final = state_after st r.applications in
       let opened = reached_opening g options.greatest options.grading d h above in
       let made = flat_map new_points done in let rest = flat_map new_points later in let els = all_elements r.applications in
-      let points : whole_points w ≡ (mesh ++ made) ++ (new_points r ++ rest) =
-      ap (λ (rs : List DomainRun). mesh ++ flat_map new_points rs) whole ∙ ap (λ (ps : List Point). mesh ++ ps) (flat_map-append new_points done (r ∷ later)) ∙ sym (append_assoc mesh made (new_points r ++ rest)) in
+      let points : whole_points w ≡ (mesh ++ made) ++ (new_points r ++ rest) = points_split done r later whole in
       let here : (r.domain == d) ≡ true = ap (λ (n : ℕ). n == d) one.domain ∙ eq_self d in
       let those : of_domain d (elements_from mesh (length mesh) w.domains) ≡ map (mesh_element mesh (length mesh + length made) r) els =
       ap (λ (rs : List DomainRun). of_domain d (elements_from mesh (length mesh) rs)) whole ∙ one_domain d mesh done later r here before after in
       let listed : AllByRecursion (AreListed r.points) els = subst (λ (ps : List Point). AllByRecursion (AreListed ps) els) (sym one.points) (all_listed (length final.points) r.applications (corners_named b s st r.applications opened can one.next_ones)) in
       let in_run : IsRunOf mesh r = subst (λ ps. IsRunOf (mesh_points ps) r) (sym run.pieces) (run_of g rules options d r one) in
-      let elements : elements_in d (mesh_of_run w g.segments) ≡ map (corners_of r.points) els = (λ i. places (points i) (those i)) ∙ elements_placed mesh made rest r els in_run listed in
-      let final_elements : elements_at final ≡ map (corners_of r.points) els = λ i. map (corners_of (sym one.points i)) (elements_after st r.applications i) in
-      let front : front_at final ≡ front_edges r = λ i. edges_by (sym one.points i) (sym one.front i) in
-      subst (AddUp g d (elements_in d (mesh_of_run w g.segments))) front
-      (subst (λ (places : List (List Point)). AddUp g d places (front_at final)) (final_elements ∙ sym elements) (adds_up g options d final h (reached_state b s st r.applications opened can one.next_ones)))
+      (λ i. places (points i) (those i)) ∙ elements_placed mesh made rest r els in_run listed ∙ sym (λ i. map (corners_of (sym one.points i)) (elements_after st r.applications i))
 
-  each : (done : List DomainRun) (ds : List ℕ) (rs : List DomainRun) → w.domains ≡ done ++ rs → AllByRecursion IsDomain ds → IsRising ds → AllByRecursion (λ q. AllByRecursion (λ c. q.domain < c) ds) done
-      → AllZip (IsDomainRun g rules options) ds rs → AllZip (IsFilled g options (mesh_of_run w g.segments)) ds rs
-  each done [] [] whole above rising before runs = tt
-  each done [] (r ∷ rs) whole above rising before runs = absurd runs
-  each done (d ∷ ds) [] whole above rising before runs = absurd runs
-  each done (d ∷ ds) (r ∷ rs) whole above rising before runs =
+  in_mesh : (done : List DomainRun) (d : ℕ) (r : DomainRun) (later : List DomainRun) → w.domains ≡ done ++ r ∷ later → 0 < d → IsDomainRun g rules options d r → AllByRecursion (λ q. (q.domain == d) ≡ false) done → AllByRecursion (λ q. (q.domain == d) ≡ false) later
+      → IsFilled g options (mesh_of_run w g.segments) d r
+  in_mesh done d r later whole above one before after =
+      let b = piece_boundary d g.segments (pieces_by g options) in let s = setting_of g rules options d in let st = opening_of g options d in
+      let final = state_after st r.applications in
+      let opened = reached_opening g options.greatest options.grading d h above in
+      let front : front_at final ≡ front_edges r = λ i. edges_by (sym one.points i) (sym one.front i) in
+      record {
+        after_each = covered g rules options d r.applications h above can one.next_ones;
+        in_mesh = subst (AddUp g d (elements_in d (mesh_of_run w g.segments))) front
+            (subst (λ (places : List (List Point)). AddUp g d places (front_at final)) (sym (mesh_elements done d r later whole above one before after)) (adds_up g options d final h (reached_state b s st r.applications opened can one.next_ones)));
+      }
+
+  -- what holds of each run between those before it and those after it holds of all
+  each : (P : ℕ → DomainRun → Type 0) → ((done : List DomainRun) (d : ℕ) (r : DomainRun) (later : List DomainRun) → w.domains ≡ done ++ r ∷ later → 0 < d → IsDomainRun g rules options d r → AllByRecursion (λ q. (q.domain == d) ≡ false) done → AllByRecursion (λ q. (q.domain == d) ≡ false) later → P d r)
+      → (done : List DomainRun) (ds : List ℕ) (rs : List DomainRun) → w.domains ≡ done ++ rs → AllByRecursion IsDomain ds → IsRising ds → AllByRecursion (λ q. AllByRecursion (λ c. q.domain < c) ds) done
+      → AllZip (IsDomainRun g rules options) ds rs → AllZip P ds rs
+  each P holds done [] [] whole above rising before runs = tt
+  each P holds done [] (r ∷ rs) whole above rising before runs = absurd runs
+  each P holds done (d ∷ ds) [] whole above rising before runs = absurd runs
+  each P holds done (d ∷ ds) (r ∷ rs) whole above rising before runs =
       let next : AllByRecursion (λ c. d < c) ds = recursion_from_All (λ c. d < c) ds rising.0 in
       let mine : AllByRecursion (λ c. r.domain < c) ds = subst (λ (n : ℕ). AllByRecursion (λ c. n < c) ds) (sym runs.0.domain) next in (
-        record {
-          after_each = covered g rules options d r.applications h above.0.0 can runs.0.next_ones;
-          in_mesh = in_mesh done d r rs whole above.0.0 runs.0
-              (all_map (λ (q : DomainRun). AllByRecursion (λ c. q.domain < c) (d ∷ ds)) (λ (q : DomainRun). (q.domain == d) ≡ false) (λ q l. apart_number q.domain d (λ e. omega (arith, l.0, e))) done before)
-              (later_apart g rules options d ds rs next runs.1);
-        },
-        each (done ++ r ∷ []) ds rs (whole ∙ sym (append_assoc done (r ∷ []) rs)) above.1 rising.1
+        holds done d r rs whole above.0.0 runs.0
+            (all_map (λ (q : DomainRun). AllByRecursion (λ c. q.domain < c) (d ∷ ds)) (λ (q : DomainRun). (q.domain == d) ≡ false) (λ q l. apart_number q.domain d (λ e. omega (arith, l.0, e))) done before)
+            (later_apart g rules options d ds rs next runs.1),
+        each P holds (done ++ r ∷ []) ds rs (whole ∙ sym (append_assoc done (r ∷ []) rs)) above.1 rising.1
             (all_append (λ (q : DomainRun). AllByRecursion (λ c. q.domain < c) ds) done (r ∷ [])
             (all_map (λ (q : DomainRun). AllByRecursion (λ c. q.domain < c) (d ∷ ds)) (λ (q : DomainRun). AllByRecursion (λ c. q.domain < c) ds) (λ q l. l.1) done before) (mine, tt))
             runs.1,
       )
 
+  pub each_run : (P : ℕ → DomainRun → Type 0) → ((done : List DomainRun) (d : ℕ) (r : DomainRun) (later : List DomainRun) → w.domains ≡ done ++ r ∷ later → 0 < d → IsDomainRun g rules options d r → AllByRecursion (λ q. (q.domain == d) ≡ false) done → AllByRecursion (λ q. (q.domain == d) ≡ false) later → P d r)
+      → AllZip P (domain_numbers g.segments) w.domains
+  each_run P holds = each P holds [] (domain_numbers g.segments) w.domains refl (recursion_from_All IsDomain (domain_numbers g.segments) (numbers_within _ g.segments h.joined)) (numbers_rise g.segments) tt run.domains
+
   pub all_covered : AreCovered g options w
-  all_covered = each [] (domain_numbers g.segments) w.domains refl (recursion_from_All IsDomain (domain_numbers g.segments) (numbers_within _ g.segments h.joined)) (numbers_rise g.segments) tt run.domains
+  all_covered = each_run (IsFilled g options (mesh_of_run w g.segments)) in_mesh

@@ -16,3 +16,5 @@ pub mod RunState
 -- Remembered: refusals that a run remembers.
 pub mod Remembered
 pub mod Sum
+-- Conform: no side is used twice, and no point hangs, in the states of all domains.
+pub mod Conform

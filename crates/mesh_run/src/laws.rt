@@ -32,6 +32,8 @@ ghost use Rattle.mesh_run.specs.Runs.{opening_of, opening_state, setting_of, IsD
 ghost use Rattle.mesh_run.specs.Reached.{IsReached, MayBeApplied, front_at};
 ghost use Rattle.mesh_run.specs.Steps.{applied, AreNext, IsEndOf, IsNext, NothingApplies, RunSetting, state_after};
 ghost use Rattle.mesh_run.specs.Sum.{AreCovered, IsCovered};
+ghost use Rattle.mesh_check.specs.Whole.{IsWhole};
+ghost use Rattle.mesh_run.specs.Conform.{AreConforming, states_at};
 ghost use Rattle.mesh_run.specs.declared.Options.{Options};
 ghost use Rattle.mesh_run.specs.declared.End.{End};
 ghost use Rattle.mesh_run.specs.declared.End.TheVariants.{Done, Stuck, Stopped};
@@ -236,4 +238,21 @@ pub fn law_still()
     ensures stays { (st : State) (a : Application) (line other : ℕ × ℕ × ℕ) →
         AreRising st.front st.next → Contains st.front line →
         Contains (applied st a).front other → other.0 ≡ line.0 → other ≡ line }
+{}
+
+/// The states of all domains conform, for every choice of how many of its applications each has made:
+/// no directed side belongs to two elements; a side is met by exactly one other element of its domain,
+/// front line of its domain, or piece of its boundary; and no mesh point is in an open side of any
+/// element. So a mesh, done or not, has no hanging point.
+pub fn law_conform()
+    ensures { (g : PlanarMap) (rules : List Rule) (options : Options) (w : WholeRun)
+        (chosen : ℕ → ℕ) → IsGeometry g → CanPrint rules → IsWholeRun g rules options w →
+        AreConforming (states_at g options chosen w.domains) }
+{}
+
+/// The mesh of a run that is done is whole: none of the faults that a check of meshes looks for is in it.
+pub fn law_done()
+    ensures { (g : PlanarMap) (rules : List Rule) (options : Options) (w : WholeRun) →
+        IsGeometry g → CanPrint rules → IsWholeRun g rules options w → w.end ≡ Done →
+        IsWhole g (mesh_of_run w g.segments) }
 {}

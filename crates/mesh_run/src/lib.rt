@@ -27,8 +27,11 @@ mod lists;
 mod mesh;
 mod numbering;
 mod opening;
+mod refusals;
 mod run;
+mod search;
 mod stepped;
+mod touched;
 mod whole;
 
 pub use all::run_all;

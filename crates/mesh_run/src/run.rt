@@ -1,12 +1,7 @@
 // The run of a domain by rules.
-ghost use Rattle.std.specs.Prelude.{◌≡◌, ◌<◌, ◌≤◌, ◌↔◌, length, IsTrue, IsSome, IfOk, IfSome, IfNone, OnOk, OnErr};
-ghost use Rattle.std.specs.List.{AllByRecursion, Contains};
+ghost use Rattle.std.specs.Prelude.{◌≡◌, ◌<◌, ◌↔◌, length, IsTrue, IfOk, IfSome, IfNone, OnOk, OnErr};
+ghost use Rattle.std.specs.List.{Contains};
 ghost use Rattle.geom_check.specs.Domains.{domain_numbers};
-ghost use Rattle.state_law.specs.State.{AreRising};
-ghost use Rattle.front_chain.specs.Front.{line_at, number_above};
-ghost use Rattle.admission.specs.Around.{IsThere};
-ghost use Rattle.rule_match.specs.Best.{IsBest};
-ghost use Rattle.rule_match.specs.Least.{HasNone};
 ghost use Rattle.mesh_run.specs.Mesh.{NamesItsPoints};
 ghost use Rattle.mesh_run.specs.Opening.{mesh_points};
 ghost use Rattle.mesh_run.specs.Runs.{pieces_by};
@@ -16,12 +11,14 @@ use super::applying::{copy_of, put};
 use super::ground::Ground;
 use super::left::{points_of, rows_of};
 use super::opening::{number_mesh, opening_of};
+use super::refusals::{Refusals, no_refusals};
+use super::search::{Scene, next_in};
+use super::touched::forget_near;
 use super::{Application, Applications, DomainRun, End, FrontRows, OpeningLines, Options, Stepped};
 use front_chain::Front;
 use geom_check::Geometry;
 use grid_geom::Points;
 use rule_maps::RuleSet;
-use rule_match::best;
 use size_field::{Pieces, Sizes, sizes_of};
 use std::alloc::{AllocError as OutOfMemory, Global};
 use std::marker::Model;
@@ -41,10 +38,12 @@ pub struct Run<'a> {
     lines: OpeningLines,
     front: Front,
     applications: Vec<Application>,
+    refusals: Refusals,
 }
 
 impl<'a> Model for Run<'a> {
-    ghost use Rattle.mesh_run.specs.RunState.{RunState, IsRunState, run_of};
+    ghost use Rattle.mesh_run.specs.RunState.{RunState, run_of};
+    ghost use Rattle.mesh_run.specs.Remembered.{DoesRemember};
 
     ghost Value = { RunState };
 
@@ -59,7 +58,7 @@ impl<'a> Model for Run<'a> {
       applications = r.applications.items;
     }) };
 
-    ghost invariant = { λ r. IsRunState (run_of (record {
+    ghost invariant = { λ r. DoesRemember (run_of (record {
       domain = r.domain;
       options = r.options;
       sizes = r.sizes;
@@ -68,11 +67,11 @@ impl<'a> Model for Run<'a> {
       lines = r.lines;
       front = r.front;
       applications = r.applications.items;
-    })) };
+    })) r.refusals };
 }
 
 impl<'a> Run<'a> {
-    ghost use Rattle.mesh_run.specs.RunState.{IsStepped, DoesTakeArea, GoesOn, IsEndOfRun, IsFirstOfClass, IsClassSpent, AreOptions, area_left, domain_run, opened_run, setting_by, run_after};
+    ghost use Rattle.mesh_run.specs.RunState.{IsStepped, DoesTakeArea, GoesOn, IsEndOfRun, AreOptions, area_left, domain_run, opened_run, setting_by, run_after};
 
     /// The run of a domain before its first application.
     pub fn open_on(
@@ -112,6 +111,7 @@ impl<'a> Run<'a> {
             lines: opening.lines,
             front,
             applications: Vec::new(alloc),
+            refusals: no_refusals(alloc, ground.rules),
         })
     }
 
@@ -144,99 +144,26 @@ impl<'a> Run<'a> {
         Run::open_on(alloc, &ground, domain)
     }
 
-    /// The application of the least candidate of a line at a class.
-    fn best_of_line<L: Ledger>(
-        &self,
-        alloc: Global,
-        class: u32,
-        line: u64,
-        steps: &mut Steps<L>,
-    ) -> Result<Option<Application>, OutOfMemory>
-        requires on_front { IsSome (line_at self.now.state.front line) }
-        requires first_class { 1 ≤ class }
-        requires last_class { class ≤ 16 }
-        ensures least { IfOk result
-            (λ found. IfSome found
-            (IsBest self.now.basis.sizes self.now.state self.now.basis.rules line class)) }
-        ensures none { IfOk result
-            (λ found. IfNone found
-            (HasNone self.now.basis.sizes self.now.state self.now.basis.rules line class)) }
-    {
-        best(
-            alloc,
-            &self.front,
-            &self.sizes,
-            self.rules,
-            line,
-            class,
-            steps,
-        )
-    }
-
-    /// The number of the first front line.
-    fn first_line(&self) -> Option<u64>
-        ensures value { result ≡ number_above self.now.state.front 0 }
-        ensures there { IsThere self.now.state.front result }
-        ensures rising { AreRising self.now.state.front self.now.state.next }
-        ensures positive { AllByRecursion (λ line. 1 ≤ line.0) self.now.state.front }
-    {
-        let _lines = self.front.lines();
-        self.front.next_line(0)
-    }
-
-    /// The number of the front line after this one.
-    fn next_line(&self, line: u64) -> Option<u64>
-        ensures value { result ≡ number_above self.now.state.front line }
-        ensures there { IsThere self.now.state.front result }
-    {
-        self.front.next_line(line)
-    }
-
-    /// The application of the least candidate at a class: that of the least line that has one.
-    fn best_of_class<L: Ledger>(
-        &self,
-        alloc: Global,
-        class: u32,
-        steps: &mut Steps<L>,
-    ) -> Result<Option<Application>, OutOfMemory>
-        requires first_class { 1 ≤ class }
-        requires last_class { class ≤ 16 }
-        ensures least { IfOk result
-            (λ found. IfSome found
-            (IsFirstOfClass (setting_by self.now.basis) self.now.state class)) }
-        ensures none { IfOk result
-            (λ found. IfNone found
-            (IsClassSpent (setting_by self.now.basis) self.now.state class)) }
-    {
-        let mut next = self.first_line();
-        while let Some(line) = next {
-            let found = self.best_of_line(alloc, class, line, steps)?;
-            if found.is_some() {
-                return Ok(found);
-            }
-            next = self.next_line(line);
-        }
-        Ok(None)
-    }
-
-    /// The application that comes next: that of the least class at which there is one.
+    /// The application that comes next: that of the least class at which there is one, and there of the
+    /// least line. What is found of refused lines on the way is remembered.
     fn next_application<L: Ledger>(
-        &self,
+        &mut self,
         alloc: Global,
         steps: &mut Steps<L>,
     ) -> Result<Option<Application>, OutOfMemory>
         ensures next { IfOk result
-            (λ found. IfSome found (IsNext (setting_by self.now.basis) self.now.state)) }
+            (λ found. IfSome found (IsNext (setting_by self.old.basis) self.old.state)) }
         ensures none { IfOk result
-            (λ found. IfNone found (NothingApplies (setting_by self.now.basis) self.now.state)) }
+            (λ found. IfNone found (NothingApplies (setting_by self.old.basis) self.old.state)) }
+        ensures stands { self.new ≡ self.old }
     {
-        for class in 1..self.options.last + 1 {
-            let found = self.best_of_class(alloc, class, steps)?;
-            if found.is_some() {
-                return Ok(found);
-            }
-        }
-        Ok(None)
+        let scene = Scene {
+            front: &self.front,
+            sizes: &self.sizes,
+            rules: self.rules,
+            last: self.options.last,
+        };
+        next_in(alloc, &scene, &mut self.refusals, steps)
     }
 
     /// Makes the application that comes next, and answers a copy of it. All memory is taken before the
@@ -256,6 +183,7 @@ impl<'a> Run<'a> {
         // the front is as a front is, and the rule one that a reader gives: so the application may be put on it
         let _lines = self.front.lines();
         let _rule = self.rules.get(application.rule).rule();
+        forget_near(&mut self.refusals, &self.front, &self.sizes, &application);
         put(&mut self.front, &application);
         self.applications.push_reserved(application);
         Ok(copy)
@@ -295,9 +223,14 @@ impl<'a> Run<'a> {
     }
 
     /// How the run ends that may make no further application: stopped only where there is one to make.
-    fn end_here<L: Ledger>(&self, alloc: Global, steps: &mut Steps<L>) -> Result<End, OutOfMemory>
-        requires { IsSpent self.now.basis.options.limit (length self.now.applications) }
-        ensures { IfOk result (IsEndOfRun self.now) }
+    fn end_here<L: Ledger>(
+        &mut self,
+        alloc: Global,
+        steps: &mut Steps<L>,
+    ) -> Result<End, OutOfMemory>
+        requires { IsSpent self.old.basis.options.limit (length self.old.applications) }
+        ensures ended { IfOk result (IsEndOfRun self.old) }
+        ensures stands { self.new ≡ self.old }
     {
         if self.front.lines() == 0 {
             return Ok(End::Done);

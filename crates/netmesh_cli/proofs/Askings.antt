@@ -13,7 +13,7 @@ use Rattle.netmesh_cli.specs.Commands.{Task, MeshTask, MeshOf, GeomOf, RulesOf, 
 use Rattle.netmesh_cli.specs.Words.{IsUnbuilt, AskForUnbuilt, WordsRefused}
 use Rattle.netmesh_cli.specs.Causes.{IsUntaken}
 use Rattle.netmesh_cli.specs.Taking.{TakesRefused}
-use Rattle.netmesh_cli.specs.Jobs.{Job, MeshJob, GeomJob, RulesJob, CheckJob, ViewJob, task_of_job, takes_of, puts_of}
+use Rattle.netmesh_cli.specs.Jobs.{Job, MeshJob, GeomJob, RulesJob, CheckJob, ViewJob, task_of_job, takes_of, puts_of, GenJob}
 use Rattle.netmesh_cli.specs.Served.{AreApart, RefusalCause, RefusalStands, Keeps, WrittenBefore}
 use Rattle.netmesh_cli.specs.Top.{IsNotYetOrMemory, IsWordsOrMemory, IfServed, IfRefused, WordsAnswer, WordsCause, Answers, Exactly, HoldsMesh, Telling}
 use Rattle.netmesh_cli.proofs.Exclusion.{one_fault, never_both, one_command}
@@ -80,6 +80,7 @@ job_is_built (GeomJob geometry) unbuilt = unbuilt
 job_is_built (RulesJob rules) unbuilt = unbuilt
 job_is_built (CheckJob geometry mesh) unbuilt = unbuilt
 job_is_built (ViewJob log domain step) unbuilt = unbuilt
+job_is_built (GenJob squares parts) unbuilt = unbuilt
 
 -- a task is asked for by one job
 job_in : Job → Task → Job
@@ -89,7 +90,7 @@ job_in other (RulesOf name) = RulesJob name
 job_in other (CheckOf geometry mesh) = CheckJob geometry mesh
 job_in other (ViewOf log domain step) = ViewJob log domain step
 job_in other (ReplayOf _ _ _) = other
-job_in other (GenOf _ _) = other
+job_in other (GenOf squares parts) = GenJob squares parts
 
 job_again : (other job : Job) → job_in other (task_of_job job) ≡ job
 unfolding job_in
@@ -98,6 +99,7 @@ job_again other (GeomJob geometry) = refl
 job_again other (RulesJob rules) = refl
 job_again other (CheckJob geometry mesh) = refl
 job_again other (ViewJob log domain step) = refl
+job_again other (GenJob squares parts) = refl
 
 pub one_job : (words : List (List ℕ)) (job other : Job) → IsCommand words (task_of_job job) → IsCommand words (task_of_job other) → job ≡ other
 one_job words job other first second = sym (job_again job job) ∙ ap (job_in job) (one_command words (task_of_job job) (task_of_job other) first second) ∙ job_again job other
@@ -109,6 +111,7 @@ job_apart words (GeomJob geometry) command = tt
 job_apart words (RulesJob rules) command = tt
 job_apart words (CheckJob geometry mesh) command = tt
 job_apart words (ViewJob log domain step) command = tt
+job_apart words (GenJob squares parts) command = tt
 
 -- ---- memory is refused for words that ask for what is built
 

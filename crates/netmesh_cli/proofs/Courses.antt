@@ -11,7 +11,7 @@ use Rattle.netmesh_cli.specs.declared.outcome.Refusal.TheVariants.{Words, In2d, 
 use Rattle.netmesh_cli.specs.Causes.{PutRefused, AnswerRefused, AnswerLeaves, IsUntaken}
 use Rattle.netmesh_cli.specs.Taking.{AreAccepted, TakesRefused}
 use Rattle.netmesh_cli.specs.declared.made.Put.{Put as PutValue}
-use Rattle.netmesh_cli.specs.Jobs.{put_of, Job, MeshJob, GeomJob, RulesJob, CheckJob, ViewJob, takes_of, puts_of, Put, Made, Makes, names_of_puts}
+use Rattle.netmesh_cli.specs.Jobs.{put_of, Job, MeshJob, GeomJob, RulesJob, CheckJob, ViewJob, takes_of, puts_of, Put, Made, Makes, names_of_puts, GenJob}
 use Rattle.netmesh_cli.specs.Served.{IsListed, AreApart, put_all, IsServed, IsAnswer, StopsAt, StopsAtPut, PutsRefused, HasAll, WrittenBefore, MakeRefused, Course, at_make, at_put, at_answer, of_take, of_put, RefusalCause, FolderStands, RefusalStands, Keeps, ArePutInOrder}
 use Rattle.netmesh_cli.proofs.Tolds.{told_weaker, told_as_before, told_both_weaker, told_before, told_then}
 use Rattle.netmesh_cli.proofs.Firsts.{named, no_out, no_words}
@@ -26,6 +26,7 @@ makes_names (GeomJob geometry) files made makes = ap names_of_puts makes.puts
 makes_names (RulesJob rules) files made makes = ap names_of_puts makes.puts
 makes_names (CheckJob geometry mesh) files made makes = ap names_of_puts makes.puts
 makes_names (ViewJob log domain step) files made makes = ap names_of_puts makes.puts
+makes_names (GenJob squares parts) files made makes = ap names_of_puts makes.puts
 
 -- of files that are accepted
 pub makes_accepted : (job : Job) (files : Files) (made : Made) → Makes job files made → AreAccepted (takes_of job) files
@@ -58,6 +59,7 @@ makes_accepted (ViewJob log domain step) files made makes = (
   },
   tt,
 )
+makes_accepted (GenJob squares parts) files made makes = tt
 
 -- ---- the exits of a call
 

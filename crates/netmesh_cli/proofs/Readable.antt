@@ -20,7 +20,7 @@ use Rattle.geom_check.specs.Placed.{IsReadable, IsReadableNumber, IsReadablePoin
 use Rattle.word_scan.specs.Numerals.{whole_of, value_of, is_whole}
 use Rattle.netmesh_cli.specs.CommandLine.{Given}
 use Rattle.netmesh_cli.specs.Commands.{ViewOf, IsSize, IsWholeFrom, HasValue, AreOptions, IsCommand, task_of}
-use Rattle.netmesh_cli.specs.Jobs.{AreInRange}
+use Rattle.netmesh_cli.specs.Jobs.{AreInRange, AreFew}
 use Rattle.netmesh_cli.specs.declared.command.MeshOptions.{MeshOptions}
 use Rattle.netmesh_cli.specs.declared.command.MeshCall.{MeshCall}
 use Rattle.netmesh_cli.specs.declared.command.Command.TheVariants as commands
@@ -113,6 +113,20 @@ options_in_range given options are = record {
 pub call_in_range : (words : List (List ℕ)) (call : MeshCall) → IsCommand words (task_of (commands.Mesh call)) → AreInRange call.options
 call_in_range words call command = options_in_range command.3.1.1 call.options command.3.1.3.1
 
+whole_at_most : (least greatest n : ℕ) (word : List ℕ) → IsWholeFrom least greatest word n → n ≤ greatest
+whole_at_most least greatest n word has = not_above (is_whole word) (nat_le (value_of word) greatest) (value_of word) greatest n refl has.written
+
 -- the domain that is viewed is at most 64
 pub view_in_range : (words : List (List ℕ)) (log : List ℕ) (domain step : ℕ) → IsCommand words (ViewOf log domain step) → domain ≤ 64
-view_in_range words log domain step command = let stands = command.3.1.3 in let is : IsWholeFrom 1 64 stands.0 domain = stands.3 in not_above (is_whole stands.0) (nat_le (value_of stands.0) 64) (value_of stands.0) 64 domain refl is.written
+view_in_range words log domain step command = let stands = command.3.1.3 in whole_at_most 1 64 domain stands.0 stands.3
+
+-- the numbers of `gen` are in their ranges
+pub few_squares : (words : List (List ℕ)) (squares parts : ℕ) → IsCommand words (task_of (commands.Gen squares parts)) → AreFew squares parts
+few_squares words squares parts command =
+    let stands = command.3.1.3 in
+    record {
+      squares_least = stands.3.enough;
+      squares_greatest = whole_at_most 1 8 squares stands.0 stands.3;
+      parts_least = stands.4.enough;
+      parts_greatest = whole_at_most 1 16 parts stands.1 stands.4;
+    }

@@ -11,7 +11,7 @@ use Rattle.netmesh_cli.specs.declared.outcome.Refusal.{Refusal}
 use Rattle.netmesh_cli.specs.declared.outcome.Refusal.TheVariants.{Words, In2d, Geometry, Rules, Vol, Log, Folder, Out, Memory, NotYet}
 use Rattle.netmesh_cli.specs.Commands.{MeshTask}
 use Rattle.netmesh_cli.specs.Causes.{IsUntaken}
-use Rattle.netmesh_cli.specs.Jobs.{Job, MeshJob, GeomJob, RulesJob, CheckJob, ViewJob, puts_of, EndsSo, Put}
+use Rattle.netmesh_cli.specs.Jobs.{Job, MeshJob, GeomJob, RulesJob, CheckJob, ViewJob, puts_of, EndsSo, Put, GenJob}
 use Rattle.netmesh_cli.specs.Served.{AreApart, put_all, IsServed, IsAnswer, HasAll, WrittenBefore, Course, RefusalCause, RefusalStands, Keeps}
 use Rattle.netmesh_cli.specs.Lines.{refusal_line}
 use Rattle.netmesh_cli.specs.Top.{IfServed, IfRefused, IsRefusedAnd, IsServedOr, WritesOrFails, WritesLine, HasLine, Telling, no_line, line_told, no_memory, Answers, HoldsMesh}
@@ -129,6 +129,7 @@ never_refused (GeomJob geometry) r ends = ends
 never_refused (RulesJob rules) r ends = ends
 never_refused (CheckJob geometry mesh) r ends = ends
 never_refused (ViewJob log domain step) r ends = ends
+never_refused (GenJob squares parts) r ends = ends
 
 if_served : (outcome : Outcome) (P : Outcome → Type 0) → P outcome → IfServed outcome P
 if_served Done P fact = fact

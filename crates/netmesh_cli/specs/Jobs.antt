@@ -18,6 +18,8 @@ use Rattle.mesh_check.specs.declared.verdict.Verdict.{Verdict}
 use Rattle.mesh_check.specs.Verdict.{IsVerdict}
 use Rattle.mesh_run.specs.declared.WholeRun.{WholeRun}
 use Rattle.run_log.specs.declared.state.View.{View}
+use Rattle.mesh_run.specs.declared.End.{End}
+use Rattle.sample_run.specs.Sampled.{IsSampled}
 use Rattle.netmesh_cli.specs.declared.outcome.Outcome.{Outcome}
 use Rattle.netmesh_cli.specs.declared.outcome.Outcome.TheVariants.{Done, Stuck, Stopped, Good, Bad, Shown}
 use Rattle.netmesh_cli.specs.declared.made.Put.{Put as PutValue}
@@ -25,8 +27,8 @@ use Rattle.netmesh_cli.specs.declared.made.Made.{Made as MadeValue}
 use Rattle.netmesh_cli.specs.declared.command.MeshCall.{MeshCall}
 use Rattle.netmesh_cli.specs.declared.command.MeshOptions.{MeshOptions}
 use Rattle.netmesh_cli.specs.declared.asked.Asked.{Asked}
-use Rattle.netmesh_cli.specs.declared.asked.Asked.TheVariants.{Mesh as MeshAsked, Geom, Rules, Check, View as ViewAsked}
-use Rattle.netmesh_cli.specs.Commands.{Task, MeshTask, MeshOf, GeomOf, RulesOf, CheckOf, ViewOf}
+use Rattle.netmesh_cli.specs.declared.asked.Asked.TheVariants.{Mesh as MeshAsked, Geom, Rules, Check, View as ViewAsked, Gen}
+use Rattle.netmesh_cli.specs.Commands.{Task, MeshTask, MeshOf, GeomOf, RulesOf, CheckOf, ViewOf, GenOf}
 use Rattle.netmesh_cli.specs.Held.{HoldsGeometry, HoldsRules, HoldsVol, HoldsState}
 use Rattle.netmesh_cli.specs.Taking.{Taken, geometry_at, rule_file_at, mesh_at, state_log_at}
 use Rattle.netmesh_cli.specs.Run.{MeshInput, IsRunOf, log_of, mesh_of, line_of, outcome_of, IsExactRun}
@@ -37,7 +39,7 @@ use Rattle.netmesh_cli.specs.Viewed.{view_text}
 
 -- ---- what is asked for
 
--- the verbs that are built: the files are given by their names
+-- the verbs that are built: files are given by their names
 pub data Job : Type 0 where
   MeshJob : MeshTask → Job
   GeomJob : List ℕ → Job
@@ -46,6 +48,8 @@ pub data Job : Type 0 where
   CheckJob : List ℕ → List ℕ → Job
   -- the log, the domain and the step
   ViewJob : List ℕ → ℕ → ℕ → Job
+  -- the squares each way, and the parts of a side
+  GenJob : ℕ → ℕ → Job
 
 -- as the words of a call ask for it
 abbrev pub task_of_job : Job → Task
@@ -54,6 +58,7 @@ task_of_job (GeomJob geometry) = GeomOf geometry
 task_of_job (RulesJob rules) = RulesOf rules
 task_of_job (CheckJob geometry mesh) = CheckOf geometry mesh
 task_of_job (ViewJob log domain step) = ViewOf log domain step
+task_of_job (GenJob squares parts) = GenOf squares parts
 
 -- as the program reads it off the words
 abbrev pub task_of_mesh : MeshCall → MeshTask
@@ -71,6 +76,7 @@ job_of (Geom geometry) = GeomJob geometry.now
 job_of (Rules rules) = RulesJob rules.now
 job_of (Check geometry mesh) = CheckJob geometry.now mesh.now
 job_of (ViewAsked log domain step) = ViewJob log.now domain step
+job_of (Gen squares parts) = GenJob squares parts
 
 -- the options of `mesh` are in the ranges that words may give them
 pub record AreInRange (options : MeshOptions) : Type 0 where
@@ -79,12 +85,20 @@ pub record AreInRange (options : MeshOptions) : Type 0 where
   pub class_least : IfSome options.class (λ n. 1 ≤ n)
   pub class_greatest : IfSome options.class (λ n. n ≤ 16)
 
+-- so many squares each way, and parts to a side, as words may ask for
+pub record AreFew (squares parts : ℕ) : Type 0 where
+  pub squares_least : 1 ≤ squares
+  pub squares_greatest : squares ≤ 8
+  pub parts_least : 1 ≤ parts
+  pub parts_greatest : parts ≤ 16
+
 abbrev pub IsInRange : Job → Type 0
 IsInRange (MeshJob task) = AreInRange task.options
 IsInRange (GeomJob geometry) = Unit {0}
 IsInRange (RulesJob rules) = Unit {0}
 IsInRange (CheckJob geometry mesh) = Unit {0}
 IsInRange (ViewJob log domain step) = domain ≤ 64
+IsInRange (GenJob squares parts) = AreFew squares parts
 
 -- ---- what is taken and put
 
@@ -94,6 +108,7 @@ takes_of (GeomJob geometry) = geometry_at geometry ∷ []
 takes_of (RulesJob rules) = rule_file_at rules ∷ []
 takes_of (CheckJob geometry mesh) = geometry_at geometry ∷ mesh_at geometry mesh ∷ []
 takes_of (ViewJob log domain step) = state_log_at domain step log ∷ []
+takes_of (GenJob squares parts) = []
 
 -- the log is put before the mesh
 abbrev pub puts_of : Job → List (List ℕ)
@@ -102,12 +117,19 @@ puts_of (GeomJob geometry) = []
 puts_of (RulesJob rules) = []
 puts_of (CheckJob geometry mesh) = []
 puts_of (ViewJob log domain step) = []
+puts_of (GenJob squares parts) = []
 
 abbrev pub IsRunOutcome : Outcome → Type 0
 IsRunOutcome Done = Unit {0}
 IsRunOutcome Stuck = Unit {0}
 IsRunOutcome Stopped = Unit {0}
 IsRunOutcome _ = ⊥
+
+-- a run without a limit on its steps is never stopped
+abbrev pub IsDoneOrStuck : Outcome → Type 0
+IsDoneOrStuck Done = Unit {0}
+IsDoneOrStuck Stuck = Unit {0}
+IsDoneOrStuck _ = ⊥
 
 abbrev pub IsShown : Outcome → Type 0
 IsShown Shown = Unit {0}
@@ -124,6 +146,7 @@ EndsSo (GeomJob geometry) = IsShown
 EndsSo (RulesJob rules) = IsShown
 EndsSo (CheckJob geometry mesh) = IsVerdictOutcome
 EndsSo (ViewJob log domain step) = IsShown
+EndsSo (GenJob squares parts) = IsDoneOrStuck
 
 -- ---- what is made
 
@@ -208,6 +231,14 @@ pub record IsViewed (name : List ℕ) (domain step : ℕ) (files : Files) (made 
   pub answer : made.answer ≡ view_text domain step view
   pub outcome : made.outcome ≡ Shown
 
+-- `gen`: the line of the whole run of so many squares with so many parts to a side, by the twelve rules, is
+-- written, and the outcome is that of its end
+pub record IsGenerated (squares parts : ℕ) (made : Made) : Type 0 where
+  pub end : End
+  pub puts : made.puts ≡ []
+  pub answer : IsSampled squares parts made.answer end
+  pub outcome : made.outcome ≡ outcome_of end
+
 -- what a verb makes of the files that are held
 abbrev pub Makes : Job → Files → Made → Type 0
 Makes (MeshJob task) files made = IsMeshed task files made
@@ -215,3 +246,4 @@ Makes (GeomJob geometry) files made = IsDrawn geometry files made
 Makes (RulesJob rules) files made = AreListed rules files made
 Makes (CheckJob geometry mesh) files made = IsChecked geometry mesh files made
 Makes (ViewJob log domain step) files made = IsViewed log domain step files made
+Makes (GenJob squares parts) files made = IsGenerated squares parts made

@@ -4,7 +4,7 @@ use Rattle.netmesh_cli.specs.declared.outcome.Refusal.{Refusal}
 use Rattle.netmesh_cli.specs.declared.outcome.Refusal.TheVariants.{Words, Memory, NotYet}
 use Rattle.netmesh_cli.specs.Commands.{Task, MeshOf, GeomOf, RulesOf, CheckOf, ViewOf, ReplayOf, GenOf, IsCommand, IsFault}
 
--- what is not built yet: the verbs `replay` and `gen`
+-- what is not built yet: the verb `replay`
 abbrev pub IsUnbuilt : Task → Type 0
 IsUnbuilt (MeshOf _) = ⊥
 IsUnbuilt (GeomOf _) = ⊥
@@ -12,7 +12,7 @@ IsUnbuilt (RulesOf _) = ⊥
 IsUnbuilt (CheckOf _ _) = ⊥
 IsUnbuilt (ViewOf _ _ _) = ⊥
 IsUnbuilt (ReplayOf _ _ _) = Unit {0}
-IsUnbuilt (GenOf _ _) = Unit {0}
+IsUnbuilt (GenOf _ _) = ⊥
 
 -- the words ask for a task that isn't built
 pub record AskForUnbuilt (words : List (List ℕ)) : Type 0 where

@@ -32,6 +32,11 @@ pub enum Asked<'a> {
         domain: u64,
         step: u64,
     },
+    /// A mesh of so many squares each way, with so many parts to a side.
+    Gen {
+        squares: u64,
+        parts: u64,
+    },
 }
 
 /// What the words of a call ask for, or why they are refused.
@@ -47,6 +52,7 @@ pub fn read_asked<'a>(alloc: Global, words: &'a [String]) -> Result<Asked<'a>, R
         Ok(Command::Rules { rules }) => Ok(Asked::Rules(rules)),
         Ok(Command::Check { geometry, mesh }) => Ok(Asked::Check { geometry, mesh }),
         Ok(Command::View { log, domain, step }) => Ok(Asked::View { log, domain, step }),
+        Ok(Command::Gen { squares, parts }) => Ok(Asked::Gen { squares, parts }),
         Ok(_) => Err(Refusal::NotYet { part: WORDS_PART }),
         Err(fault) => Err(Refusal::Words(fault)),
     }

@@ -1,7 +1,8 @@
 //! Which files and which answer come of the files that the words name, and if none, why?
 //!
 //! Each accepted geometry is shown by `geom`, and meshed by `mesh` by the rules of a file, which `rules`
-//! shows. `check` judges a mesh, and `view` shows a state of a log. The other verbs are not built yet.
+//! shows. `check` judges a mesh, and `view` shows a state of a log. `gen` meshes squares that it makes
+//! itself. The verb `replay` is not built yet.
 //!
 //! 1. The words name the files. Each file is taken and read before the next is taken.
 //! 2. What is put and written is made of values, between the last take and the first put: so it is a
@@ -26,6 +27,7 @@ pub mod file_laws;
 mod files;
 mod form;
 mod forms;
+mod generated;
 mod geom;
 mod geometry;
 pub mod geometry_laws;

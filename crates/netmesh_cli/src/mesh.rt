@@ -20,7 +20,7 @@ use std::alloc::{AllocError, Global};
 use std::thread::Threads;
 
 /// The outcome of a run that ended so.
-fn outcome_of(end: End) -> Outcome
+pub fn outcome_of(end: End) -> Outcome
     ensures outcome { result ≡ outcome_of end }
     ensures ending { IsRunOutcome result }
 {

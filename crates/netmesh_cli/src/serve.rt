@@ -8,6 +8,7 @@ ghost use Rattle.netmesh_cli.specs.Served.{IsServed, IsAnswer, MakeRefused, Cour
 
 use super::asked::Asked;
 use super::check::make_check;
+use super::generated::make_gen;
 use super::geom::make_geom;
 use super::made::Made;
 use super::mesh::make_mesh;
@@ -44,6 +45,7 @@ fn make<'a, R: Threads + Sync, F: Folder, G: Gate + Sync>(
         Asked::Rules(name) => make_rules(alloc, name, folder),
         Asked::Check { geometry, mesh } => make_check(alloc, geometry, mesh, folder),
         Asked::View { log, domain, step } => make_view(alloc, log, *domain, *step, folder),
+        Asked::Gen { squares, parts } => make_gen(rt, alloc, *squares, *parts, gate),
     }
 }
 

@@ -70,7 +70,9 @@ fn answered<R: Threads + Sync, F: Folder, O: Sink, G: Gate + Sync>(
 /// comments its shift and the doubled areas of its domains. `rules RULES` writes of each rule whether it
 /// is live or why it never applies, and the normal text of them all. `check GEOMETRY MESH` writes that
 /// the mesh is whole for the geometry, or its first fault. `view LOG DOMAIN STEP` writes the state of a
-/// domain after so many applications of its run.
+/// domain after so many applications of its run. `gen N M` meshes N times N unit squares with M parts to
+/// a side, by the twelve rules that the program holds, and writes the summary line: it takes no file,
+/// and nothing is refused but its words, the answer and memory.
 ///
 /// Refused are words at fault, and the other verbs; a file that isn't there, is too long or can't be
 /// taken or put; a text of no geometry; a geometry that isn't accepted; bytes that are no rule file, no

@@ -40,3 +40,5 @@ pub mod WithinReach
 pub mod NearBack
 -- FarAway: elements in a box leave a front alike in each box apart from it.
 pub mod FarAway
+-- FarLines: front lines whose reach lies apart from an area.
+pub mod FarLines

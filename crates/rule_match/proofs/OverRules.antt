@@ -29,7 +29,7 @@ use Rattle.rule_match.specs.Fitting.{fits_so_far}
 use Rattle.rule_match.specs.Trying.{near_at, ties}
 use Rattle.rule_match.specs.Around.{IsTried, StandFor, setting_of}
 use Rattle.rule_match.specs.Base.{BaseLine, IsBaseLine, IsBaseOf, IsFramed, Tried, attempt_of, numbers_at, setting_at}
-use Rattle.rule_match.specs.Passed.{IsPassed, IsOn, IsFind, IsFindIfAny, IsLeastSoFar, Holds, rank_of, state_at}
+use Rattle.rule_match.specs.Passed.{IsPassed, IsOn, IsFind, IsFindIfAny, IsLeastSoFar, NoneMayApply, Holds, rank_of, state_at}
 use Rattle.rule_match.proofs.Advances.{no_worse_same, no_worse_chain}
 use Rattle.rule_match.proofs.Gathered.{line_numbered}
 use Rattle.rule_match.proofs.Tried.{tried}
@@ -193,10 +193,36 @@ of_line sizes f rules line class b t is on = record {
   is_rule = on.is_rule;
 }
 
--- ---- over all rules
+-- ---- where no rule may apply
 all_rules : (rules : List Rule) (t : Attempt) (text : Rule) → 1 ≤ t.rule → slice_get rules (t.rule - 1) ≡ Some text → t.rule ≤ length rules
 all_rules rules t text first is = omega (arith, first, slice_get_within rules (t.rule - 1) text is)
 
+pub none_may_before : (class : ℕ) (rules : List Rule) → NoneMayApply class rules 0
+none_may_before class rules number few = absurd (omega (arith, few))
+
+-- one rule more that may not apply
+pub none_may_more : (class k : ℕ) (rules : List Rule) (rule : Rule) → NoneMayApply class rules k → k < length rules → ((d : Rule) → slice_index_or rules (k + 1 - 1) d ≡ rule) → (IsLive rule → rule.quality ≤ class → ⊥)
+    → NoneMayApply class rules (k + 1)
+none_may_more class k rules rule so_far within is never number few text at = by (before_or_last (number + 1) k (omega (arith, few)))
+  where
+    here : slice_get rules (k + 1 - 1) ≡ Some rule
+    here = rule_is rules (k + 1) rule (omega arith) (omega (arith, within)) is
+
+    by : (number + 1 ≤ k) ⊎ (number + 1 ≡ k + 1) → IsLive text → text.quality ≤ class → ⊥
+    by (inl less) live quality = so_far number (omega (arith, less)) text at live quality
+    by (inr e) live quality =
+        let same : text ≡ rule = text_at rules (number + 1) k text rule e (subst (λ (m : ℕ). slice_get rules m ≡ Some text) (omega arith) at) (subst (λ (m : ℕ). slice_get rules m ≡ Some rule) (omega arith) here) in
+        never (subst IsLive same live) (subst (λ (r : Rule). r.quality ≤ class) same quality)
+
+-- then the line has no candidate
+pub none_may : (sizes : SizeField) (st : State) (rules : List Rule) (line class : ℕ) → NoneMayApply class rules (length rules) → HasNone sizes st rules line class
+none_may sizes st rules line class idle = record {
+  none = λ t of c.
+      let last = all_rules rules t t.text of.numbered of.is_rule in
+      idle (t.rule - 1) (omega (arith, of.numbered, last)) t.text of.is_rule c.live (subst (λ (n : ℕ). t.text.quality ≤ n) of.same_class c.quality);
+}
+
+-- ---- over all rules
 pub none_found : (sizes : SizeField) (f : FrontState) (rules : List Rule) (line class : ℕ) (b : BaseLine) → IsBaseOf sizes f line class b → IsLeastSoFar b rules (length rules) None → HasNone sizes (state_of f) rules line class
 none_found sizes f rules line class b is so_far = record {
   none = λ t of c.

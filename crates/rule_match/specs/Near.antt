@@ -5,6 +5,8 @@
 -- IsAlikeNear          a later state is alike in a box
 -- IsCoveredBy          a rule is one that a reader gives, and n covers it where it is live
 -- IsStayingLine        a front line that the later state has too
+-- IsReachAtMost        how far the reach of a line goes beyond its start
+-- IsFarLine            a front line whose reach lies apart from a box
 use lib.IntN.{ℤ, pos, ◌+ℤ◌, ◌-ℤ◌, ◌*ℤ◌}
 use lib.Signed.{◌<ℤ◌, ◌≤ℤ◌}
 use Rattle.std.specs.Prelude.{ℕ, ◌≡◌, ◌⊎◌, ◌≤◌, List, ◌++◌}
@@ -71,3 +73,24 @@ pub record IsStayingLine (sizes : SizeField) (st later : State) (line : ℕ × �
   pub frame : IsFrame f
   pub framed : IsFrameOf (point_at st.points line.1) (point_at st.points line.2)
       (size_at sizes f.middle) f
+
+-- the line has a frame, and its reach goes at most so many grid steps beyond its start
+pub record IsReachAtMost (sizes : SizeField) (points : List Point) (n : ℕ) (steps : ℤ) (from to : ℕ) : Type 0 where
+  pub frame : LocalFrame
+  pub is_frame : IsFrame frame
+  pub framed : IsFrameOf (point_at points from) (point_at points to)
+      (size_at sizes frame.middle) frame
+  pub positive : pos 0 ≤ℤ widening n frame
+  pub within : widening n frame ≤ℤ steps
+
+-- the front line with the number, with its frame, and the box of its reach, which is apart from the box from least to greatest
+pub record IsFarLine (sizes : SizeField) (st : State) (n : ℕ) (least greatest : Point) (number : ℕ) : Type 0 where
+  pub line : ℕ × ℕ × ℕ
+  pub on_front : Contains st.front line
+  pub numbered : line.0 ≡ number
+  pub frame : LocalFrame
+  pub is_frame : IsFrame frame
+  pub framed : IsFrameOf (point_at st.points line.1) (point_at st.points line.2)
+      (size_at sizes frame.middle) frame
+  pub box : IsBox (reach_lo n frame) (reach_hi n frame)
+  pub apart : AreBoxesApart (reach_lo n frame) (reach_hi n frame) least greatest

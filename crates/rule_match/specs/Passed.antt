@@ -2,11 +2,13 @@
 --
 -- IsPassed       a rule is passed: what is found isn't after any of its candidates on the base
 --                line, and is no other
+-- NoneMayApply   none of the first so many rules is live and of quality at most the class
 -- IsOn           an attempt on the base line by a rule of the list
 -- IsFind         what is found is such an attempt, and a candidate
 -- IsLeastSoFar   what is found is the least of the candidates by the first so many rules
-use Rattle.std.specs.Prelude.{◌≡◌, ℕ, ◌-◌, ◌≤◌, List, length, true, Option, None, Some, slice_get}
+use Rattle.std.specs.Prelude.{◌≡◌, ℕ, ◌-◌, ◌≤◌, ◌<◌, List, length, true, Option, None, Some, slice_get}
 use Rattle.rule_reader.specs.declared.rule.Rule.{Rule}
+use Rattle.rule_maps.specs.Inert.{IsLive}
 use Rattle.state_law.specs.State.{State}
 use Rattle.front_chain.specs.Front.{state_of}
 use Rattle.rule_match.specs.declared.found.Found.{Found}
@@ -37,6 +39,11 @@ pub record IsPassed (t : Tried) (old new : Progress) : Type 0 where
   pub least : (b : List ℕ) → length b ≡ length t.rule.points
       → fits_so_far (ties (setting_at t)) b ≡ true → Holds t b
       → IsNoWorse new.best (Some (rank_of t b))
+
+-- none of the first k rules is live and of quality at most the class
+abbrev pub NoneMayApply : ℕ → List Rule → ℕ → Type 0
+NoneMayApply class rules k = (number : ℕ) → number < k →
+    (rule : Rule) → slice_get rules number ≡ Some rule → IsLive rule → rule.quality ≤ class → ⊥
 
 -- an attempt on the base line by a rule of the list
 pub record IsOn (b : BaseLine) (rules : List Rule) (t : Attempt) : Type 0 where

@@ -84,7 +84,7 @@ fn middle_of(a: &Point, b: &Point) -> Point
 }
 
 /// The frame of the front line between two points, at the size at its middle.
-fn frame_of(front: &Front, sizes: &Sizes, from: u64, to: u64) -> Frame
+pub(crate) fn frame_of(front: &Front, sizes: &Sizes, from: u64, to: u64) -> Frame
     requires { IsFrontPair (state_of front.now) (from, to) }
     ensures { IsFramed sizes.now front.now.points from to result }
 {

@@ -1,7 +1,8 @@
 //! The least candidate of a line at a class, over all live rules of quality at most the class.
 //!
-//! 1. The base line's frame and its surroundings are the same for all rules, and are gathered once.
-//! 2. Rule after rule is passed: what is found is the least of the candidates by the rules so far, so a
+//! 1. Where no rule may apply at the class, nothing is looked at.
+//! 2. The base line's frame and its surroundings are the same for all rules, and are gathered once.
+//! 3. Rule after rule is passed: what is found is the least of the candidates by the rules so far, so a
 //!    find that comes after it is never judged.
 
 ghost use Rattle.std.specs.Prelude.{◌≡◌, ◌+◌, ◌-◌, ◌≤◌, length, true, false, IsSome, IfOk, IfSome, IfNone, OnOk};
@@ -13,7 +14,7 @@ ghost use Rattle.rule_match.specs.Candidate.{Attempt, IsCandidate};
 ghost use Rattle.rule_match.specs.Applied.{application};
 ghost use Rattle.rule_match.specs.Least.{HasNone, rank};
 ghost use Rattle.rule_match.specs.Best.{IsBest};
-ghost use Rattle.rule_match.specs.Passed.{IsOn, IsFind, IsLeastSoFar, state_at};
+ghost use Rattle.rule_match.specs.Passed.{IsOn, IsFind, IsLeastSoFar, NoneMayApply, state_at};
 
 use super::application::Application;
 use super::base::Base;
@@ -38,6 +39,18 @@ fn may_apply(rule: &Compiled<'_>, class: u32) -> bool
     ensures never { result ≡ false → IsLive rule.now → rule.now.quality ≤ class → ⊥ }
 {
     rule.inert().is_none() && rule.rule().quality <= class
+}
+
+/// Whether some rule may apply at the class.
+fn some_may_apply(rules: &RuleSet<'_>, class: u32) -> bool
+    ensures { result ≡ false → NoneMayApply class rules.now (length rules.now) }
+{
+    for position in 0..rules.count() {
+        if may_apply(rules.get(position + 1), class) {
+            return true;
+        }
+    }
+    false
 }
 
 /// Passes the rule with the number, where it may apply at the class.
@@ -144,6 +157,9 @@ pub fn best<L: Ledger>(
     ensures counted { steps.new ≡ steps.old + 1 }
 {
     steps.count();
+    if !some_may_apply(rules, class) {
+        return Ok(None);
+    }
     let base = Base::new(alloc, front, sizes, line, class)?;
     match least_found(alloc, &base, rules)? {
         None => Ok(None),

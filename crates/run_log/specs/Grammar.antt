@@ -13,6 +13,7 @@ use Rattle.rule_match.specs.declared.application.Application.{Application}
 use Rattle.mesh_run.specs.declared.Options.{Options}
 use Rattle.mesh_run.specs.declared.domain_run.DomainRun.{DomainRun}
 use Rattle.run_log.specs.declared.refusal.LogRefusal.{LogRefusal}
+use Rattle.run_log.specs.declared.refusal.LogRefusal.TheVariants.{Syntax, Number, BadIndex, NoState, Memory}
 use Rattle.run_log.specs.declared.log.Log.{Log}
 use Rattle.run_log.specs.Form.{Word, Form, Says, ◌>>=◌, many, Derives, Stops}
 use Rattle.run_log.specs.Numbers.{greatest_whole, fixed, number, whole, signed, point, limit, ended, others}
@@ -153,3 +154,11 @@ Reads words said = Derives log words said
 -- the first word that can't stand where it stands is refused so, or a word is missing
 abbrev pub Refuses : List Word → LogRefusal → Type 0
 Refuses words refusal = Stops log 1 words refusal
+
+-- the number of the word that a refusal names; 0 where it names none
+abbrev pub word_of : LogRefusal → ℕ
+word_of (Syntax word) = word
+word_of (Number word) = word
+word_of (BadIndex word) = word
+word_of (NoState domain step) = 0
+word_of Memory = 0

@@ -5,12 +5,13 @@
 -- view_of          both
 -- AreRising        domain numbers rise
 -- HasState         the log has this run of the domain, and it has so many applications
+-- LeastLeaves      the line with a side's ends and the least number leaves
 -- Shows            what a view of a state shows
 -- HasNoState       the log has no such state
-use Rattle.std.specs.Prelude.{◌≡◌, ℕ, ◌+◌, ◌<◌, ◌≤◌, nat_lt, if◌then◌else◌, List, [], ◌∷◌, length, take, Option, None, Some, Result, Ok, Err}
+use Rattle.std.specs.Prelude.{◌≡◌, ℕ, ◌+◌, ◌<◌, ◌≤◌, nat_lt, if◌then◌else◌, List, [], ◌∷◌, ◌++◌, true, length, take, Option, None, Some, Result, Ok, Err}
 use Rattle.std.specs.List.{flat_map, AllByRecursion, Contains}
 use Rattle.mesh_run.specs.declared.domain_run.DomainRun.{DomainRun}
-use Rattle.state_law.specs.State.{number_sides, glue_lines}
+use Rattle.state_law.specs.State.{does_join, number_sides, glue_lines}
 use Rattle.front_chain.specs.Front.{numbered_from}
 use Rattle.run_log.specs.declared.log.Log.{Log}
 use Rattle.run_log.specs.declared.refusal.LogRefusal.{LogRefusal}
@@ -48,6 +49,17 @@ pub record Shows (log : Log) (domain k : ℕ) (view : View) : Type 0 where
 
 abbrev pub HasNoState : Log → ℕ → ℕ → Type 0
 HasNoState log domain k = (run : DomainRun) → HasState log domain k run → ⊥
+
+-- of the lines that go the way of the side one leaves, none of which has a lower number; the others keep their order
+pub record LeastLeaves (front : List (ℕ × ℕ × ℕ)) (side : ℕ × ℕ) (rest : List (ℕ × ℕ × ℕ)) : Type 0 where
+  pub before : List (ℕ × ℕ × ℕ)
+  pub line : ℕ × ℕ × ℕ
+  pub after : List (ℕ × ℕ × ℕ)
+  pub there : front ≡ before ++ line ∷ after
+  pub rest_is : rest ≡ before ++ after
+  pub joins : does_join line side ≡ true
+  pub least : AllByRecursion
+      (λ (other : ℕ × ℕ × ℕ). does_join other side ≡ true → line.0 ≤ other.0) front
 
 -- inner: what is shown of the run that was found
 abbrev pub viewed : Option DomainRun → ℕ → ℕ → Result View LogRefusal

@@ -9,6 +9,8 @@ mod applied;
 mod end_word;
 pub mod laws;
 mod lists;
+#[cfg(test)]
+mod log_tests;
 mod log;
 mod reader;
 mod reading;

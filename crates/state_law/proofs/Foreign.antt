@@ -18,7 +18,7 @@ use Rattle.grid_geom.specs.Line.{Line, side, whole, through}
 use Rattle.grid_geom.specs.Sides.{IsOnClosed, IsOnOpen, second_start, second_end}
 use Rattle.grid_geom.specs.Sharing.{IsShared, ShareAtMostAnEnd, nothing, one_end, IsAt, IsEnd}
 use Rattle.grid_geom.specs.Segment.{IsOnSegment, DoMeet, IsSeparated}
-use Rattle.grid_geom.specs.Polygon.{IsInPolygon}
+use Rattle.grid_geom.specs.Polygon.{IsInPolygon, IsStrictlyConvex}
 use Rattle.grid_geom.specs.Winding.{wind}
 use Rattle.grid_geom.specs.Closed.{IsEdge, IsOff}
 use Rattle.grid_geom.proofs.Ring.{var, num, ◌⊕◌, ◌⊖◌, ◌⊗◌, ring}
@@ -37,7 +37,7 @@ use Rattle.wind_law.proofs.Uncrossed.{IsPartedByLine, uncrossed}
 use Rattle.state_law.specs.Free.{AreAlike, DoEdgesTangle, IsIn}
 use Rattle.state_law.specs.Net.{net}
 use Rattle.state_law.specs.Kept.{all_sides, IsNoneOrOne, IsKept}
-use Rattle.state_law.specs.Saved.{IsElement, IsFrontPoint}
+use Rattle.state_law.specs.Saved.{IsElement, IsElementCorner, IsFrontPoint}
 use Rattle.state_law.specs.Conforming.{IsBoundary, WindsOnce, IsUsed, AreNeighbours, IsSound, IsMeshPoint}
 use Rattle.state_law.proofs.Lists.{all_map, at_edge}
 use Rattle.state_law.proofs.Counts.{in_or_not, in_by_times, times_some, times_not_in, net_in}
@@ -344,3 +344,36 @@ foreign_hanging boundary others front elements next after more v s d d' a p i o 
         | inr f ↦ off_next f p
       ]
     ]
+
+-- ---- one place in two domains
+-- a corner of an element that is a mesh point of the next domain is an end of a piece: off the boundary the domains would overlap round it, and in an open piece it would hang
+pub shared_place : (boundary others front : List Edge) (elements : List (List Point)) (next after : List Edge) (more : List (List Point)) (v : Point) → IsSound boundary others front elements → IsSound next others after more → AreNeighbours boundary next others → IsElementCorner v elements → IsMeshPoint next more v
+    → IsFrontPoint boundary v
+shared_place boundary others front elements next after more v s t a c p = elim (on_or_off (whole v) boundary rational s.bounds.edges) [
+  | inl r ↦ on_boundary r (ends_or_open v r.edge_at r.on)
+  | inr f ↦ absurd (off_boundary f p)
+]
+  where
+    rational : IsRational (whole v)
+    rational = record { positive = omega (arith, ints) }
+
+    own : HasCorner v elements
+    own = corner_of v elements c
+
+    corner_in : (cs : List (List Point)) → AllByRecursion IsStrictlyConvex cs → (h : HasCorner v cs) → IsInClosure (whole v) h.element
+    corner_in cs convex h = corner_closure v h.element (element_convex h.element cs convex h.among) h.has
+
+    off_boundary : IsOff (whole v) boundary → IsMeshPoint next more v → ⊥
+    off_boundary f (inr d) =
+        let other = corner_of v more d in
+        two_elements boundary others front elements next after more own.element other.element (whole v) a.apart s t own.among other.among rational (corner_in elements s.kept.convex own) (corner_in more t.kept.convex other) f
+    off_boundary f (inl e) =
+        piece_end boundary next others v s.kept.other_edges s.bounds t.bounds t.winds a (end_of v next e) f (at_least_once boundary others front elements own.element (whole v) s own.among rational (corner_in elements s.kept.convex own) f)
+
+    in_open : (g : Edge) → IsOnOpen v g.a g.b → IsIn g front ⊎ IsIn g (all_sides elements) → ⊥
+    in_open g u (inl k) = at_edge (λ e. ¬ (IsOnOpen v e.a e.b)) g front (s.unhung.each v (inr c)).off_lines k u
+    in_open g u (inr k) = at_edge (λ e. ¬ (IsOnOpen v e.a e.b)) g (all_sides elements) (s.unhung.each v (inr c)).off_sides k u
+
+    on_boundary : (r : IsOnSome (whole v) boundary) → ((v ≡ r.edge_at.a) ⊎ (v ≡ r.edge_at.b)) ⊎ IsOnOpen v r.edge_at.a r.edge_at.b → IsFrontPoint boundary v
+    on_boundary r (inl end) = is_front_point v r.edge_at boundary r.among end
+    on_boundary r (inr o) = absurd (in_open r.edge_at o (still_there boundary others front elements r.edge_at s r.among))

@@ -170,6 +170,16 @@ pub fn law_foreign()
         ¬ (IsOnOpen v s.a s.b) }
 {}
 
+/// A corner of an element of one domain that is a mesh point of another is an end of a piece of both:
+/// domains meet in the ends of their pieces alone.
+pub fn law_shared()
+    ensures { (boundary others front : List Edge) (elements : List (List Point))
+        (next after : List Edge) (more : List (List Point)) (v : Point) →
+        IsSound boundary others front elements → IsSound next others after more →
+        AreNeighbours boundary next others → IsElementCorner v elements → IsMeshPoint next more v →
+        IsFrontPoint boundary v }
+{}
+
 /// A segment that enters an open polygon has a box that meets each box which holds the polygon's
 /// corners. So only lines with near boxes can hinder an element or stand in a zone.
 ///

@@ -1,6 +1,6 @@
 -- What a word gives where something is needed is what it says.
-use Rattle.std.proofs.Common.{◌≡◌, ◌≢◌, ℕ, zero, suc, ◌+◌, ◌*◌, ◌/◌, ◌%◌, ◌^◌, ◌<◌, ◌≤◌, Bool, true, false, ◌&&◌, ◌==◌, cond, eqb, List, [], ◌∷◌, ◌++◌, length, Option, Some, None, option_map, refl, sym, ap, subst, ◌∙◌, arith}
-use Rattle.std.specs.Prelude.{ℤ, pos, negsuc, ◌+ℤ◌, ◌*ℤ◌, neg_ℤ, ◌≤ℤ◌, unsigned_abs, nat_le}
+use Rattle.std.proofs.Common.{◌≡◌, ℕ, zero, suc, ◌*◌, ◌/◌, ◌%◌, ◌<◌, ◌≤◌, Bool, true, false, ◌&&◌, ◌==◌, Option, Some, None, option_map, refl, sym, ap, subst, ◌∙◌, arith}
+use Rattle.std.specs.Prelude.{ℤ, pos, negsuc, ◌+ℤ◌, ◌*ℤ◌, neg_ℤ, unsigned_abs, nat_le}
 use Rattle.std.specs.Int.{is_negative}
 use Rattle.std.specs.Str.{bytes_eq}
 use Rattle.std.proofs.lemmas.Slice.Eq.{bytes_eq-Decides}
@@ -15,7 +15,7 @@ use Rattle.word_scan.specs.Numerals.{IsWhole, value_of, is_whole, whole_of}
 use Rattle.word_scan.specs.Decimals.{decimal_of, signed}
 use Rattle.word_scan.proofs.DecimalLaws.{size_of_signed}
 use Rattle.vol_format.specs.declared.refusal.TheConstants.{MOST_ROWS}
-use Rattle.vol_format.specs.Text.{Word, Item, Fixed, Number, Coordinate, Role, Plain, Count, PointNumber, plain, tens, IsPlace, Says}
+use Rattle.vol_format.specs.Text.{Word, Item, Fixed, Number, Coordinate, Count, PointNumber, plain, tens, IsPlace, Says}
 use Rattle.vol_format.specs.Reading.{Need, NeedWord, NeedNumber, NeedPoint, NeedCount, NeedPlace, Given, got, from_least, divided, steps_of, place_of, place_in}
 use Rattle.vol_format.proofs.Words.{told_whole, whole_told}
 

@@ -1,18 +1,17 @@
 -- What is read to its end is a text, and each text is read to its end.
-use Rattle.std.proofs.Common.{◌≡◌, ◌⊎◌, inl, inr, ℕ, zero, suc, ◌+◌, ◌<◌, List, [], ◌∷◌, ◌++◌, length, Option, Some, None, Result, Ok, Err, refl, sym, ap, subst, ◌∙◌, arith}
+use Rattle.std.proofs.Common.{◌≡◌, ℕ, ◌+◌, List, [], ◌∷◌, ◌++◌, length, Result, Ok, refl, sym, ap, subst, ◌∙◌, arith}
 use Rattle.std.specs.Prelude.{ℤ}
 use Rattle.std.specs.List.{AllZip}
 use Rattle.std.proofs.lemmas.List.{append-nil}
 use Rattle.vol_format.specs.declared.Mesh.{Mesh}
 use Rattle.vol_format.specs.declared.refusal.VolRefusal.{VolRefusal}
-use Rattle.vol_format.specs.declared.refusal.VolRefusal.TheVariants.{Syntax}
 use Rattle.vol_format.specs.Vol.{places}
 use Rattle.vol_format.specs.Text.{Word, Item, Says, mesh_items, Derives}
 use Rattle.vol_format.specs.Refusals.{IsFront, Wants}
-use Rattle.vol_format.specs.Reading.{Need, Given, got, refused, Form, Leaf, Ask, State, Read, and_then, run, elements_form, edges_form, points_form, ending_form, mesh_at, ended, ended_at, at_start}
-use Rattle.vol_format.proofs.Asks.{item_of, InNeed, says_got}
+use Rattle.vol_format.specs.Reading.{Need, Given, Form, Leaf, Ask, State, and_then, run, elements_form, edges_form, points_form, ending_form, mesh_at, ended, at_start}
+use Rattle.vol_format.proofs.Asks.{item_of}
 use Rattle.vol_format.proofs.Forms.{run_then, then_same}
-use Rattle.vol_format.proofs.Leads.{spot, Leads, Reach, Good, Text, Split, split, join, reach_run, reach_one, reach_good, reach_more, some_text, Outcome, Done, Short, Wrong, outcome}
+use Rattle.vol_format.proofs.Leads.{spot, Leads, Reach, Text, Split, split, join, reach_run, reach_one, reach_good, some_text}
 use Rattle.vol_format.proofs.Meshes.{after_points, after_edges, after_elements, mesh_form, mesh_sound, mesh_whole}
 use Rattle.vol_format.proofs.Texts.{good_mesh}
 

@@ -1,8 +1,8 @@
 -- Reading a form, part by part.
-use Rattle.std.proofs.Common.{◌≡◌, ℕ, zero, suc, ◌+◌, List, [], ◌∷◌, ◌++◌, Result, Ok, Err, refl, sym, ap, ◌∙◌}
+use Rattle.std.proofs.Common.{◌≡◌, ℕ, suc, List, [], ◌∷◌, ◌++◌, Result, Ok, Err, refl, sym, ap, ◌∙◌}
 use Rattle.vol_format.specs.declared.refusal.VolRefusal.{VolRefusal}
 use Rattle.vol_format.specs.declared.refusal.VolRefusal.TheVariants.{Syntax, Number, BadIndex, TooMany, Memory}
-use Rattle.vol_format.specs.Reading.{Need, Given, Form, Leaf, Ask, ◌>>=◌, State, Read, and_then, asked, run, rows_behind, Fails}
+use Rattle.vol_format.specs.Reading.{Form, Leaf, Ask, ◌>>=◌, State, Read, and_then, asked, run, rows_behind, Fails}
 
 then_again : {A B C : Type 0} (r : Read A) (f : A → State → Read B) (g : B → State → Read C) → ((a : A) (st : State) → Read C)
     → and_then r (λ a after. and_then (f a after) g) ≡ and_then (and_then r f) g

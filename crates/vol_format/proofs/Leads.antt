@@ -4,11 +4,11 @@
 -- Reach    the form that is left behind these words
 -- Good     each form that may be left has a text
 -- Outcome  how reading a form ends
-use Rattle.std.proofs.Common.{◌≡◌, ℕ, zero, suc, ◌+◌, List, [], ◌∷◌, ◌++◌, length, Option, Some, None, Result, Ok, Err, refl, sym, ap, subst, ◌∙◌, arith}
+use Rattle.std.proofs.Common.{◌≡◌, ℕ, suc, ◌+◌, List, [], ◌∷◌, ◌++◌, length, Option, Some, None, Ok, Err, refl, sym, ap, subst, ◌∙◌, arith}
 use Rattle.std.specs.List.{AllZip}
 use Rattle.vol_format.specs.declared.refusal.VolRefusal.TheVariants.{Syntax}
 use Rattle.vol_format.specs.Text.{Word, Item, Says}
-use Rattle.vol_format.specs.Reading.{Need, Given, got, refused, Form, Leaf, Ask, ◌>>=◌, State, Read, and_then, judged, asked_at, asked, run}
+use Rattle.vol_format.specs.Reading.{Need, Given, got, refused, Form, Leaf, Ask, ◌>>=◌, State, Read, asked, run}
 use Rattle.vol_format.proofs.Asks.{item_of, InNeed, got_says, says_got}
 
 abbrev pub spot : ℕ → ℕ → List Word → State

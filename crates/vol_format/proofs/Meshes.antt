@@ -1,6 +1,6 @@
 -- The words that lead through the form of a mesh's text say the mesh.
-use Rattle.std.proofs.Common.{◌≡◌, ℕ, zero, suc, ◌+◌, ◌<◌, ◌≤◌, List, [], ◌∷◌, ◌++◌, length, Some, refl, sym, ap, subst, ◌∙◌, append_assoc, length-append, arith}
-use Rattle.std.specs.Prelude.{ℤ, pos, negsuc, ◌≤ℤ◌, neg_ℤ, unsigned_abs}
+use Rattle.std.proofs.Common.{◌≡◌, ℕ, zero, suc, ◌≤◌, List, [], ◌∷◌, ◌++◌, length, refl, sym, ap, subst, ◌∙◌, append_assoc, arith}
+use Rattle.std.specs.Prelude.{ℤ, pos, negsuc, unsigned_abs}
 use Rattle.std.specs.List.{flat_map, AllByRecursion}
 use Rattle.std.proofs.lemmas.List.{append-nil}
 use Rattle.std.proofs.lemmas.Int.{ints}
@@ -11,10 +11,9 @@ use Rattle.vol_format.specs.declared.EdgeRow.{EdgeRow}
 use Rattle.vol_format.specs.declared.MeshElement.{MeshElement}
 use Rattle.vol_format.specs.declared.Mesh.{Mesh}
 use Rattle.vol_format.specs.declared.refusal.TheConstants.{MOST_ROWS}
-use Rattle.vol_format.specs.Text.{Item, Fixed, Number, Coordinate, Count, PointNumber, plain, element_items, edge_items, point_items, counted_items, edges_part, points_part, mesh_items, IsFrom, ElementInRange, EdgeInRange, InRanges, mesh3d, dimension, geomtype, surfaceelements, volumeelements, edgesegmentsgi2, points_word, endmesh}
-use Rattle.vol_format.specs.Reading.{Need, NeedCount, Given, Form, Leaf, Ask, ◌>>=◌, element_form, edge_form, point_form, rows_behind, counted_rows, elements_form, edges_form, points_form, ending_form}
-use Rattle.vol_format.proofs.Asks.{item_of, InNeed}
-use Rattle.vol_format.proofs.Leads.{Leads, leads_then, Parts, then_leads}
+use Rattle.vol_format.specs.Text.{Item, Fixed, Number, Coordinate, Count, PointNumber, plain, element_items, edge_items, point_items, counted_items, edges_part, points_part, mesh_items, ElementInRange, EdgeInRange, InRanges, mesh3d, dimension, geomtype, surfaceelements, volumeelements, edgesegmentsgi2, points_word, endmesh}
+use Rattle.vol_format.specs.Reading.{Form, Leaf, ◌>>=◌, element_form, edge_form, point_form, rows_behind, counted_rows, elements_form, edges_form, points_form, ending_form}
+use Rattle.vol_format.proofs.Leads.{Leads, leads_then, then_leads}
 
 exactly : (n m : ℕ) → (n ≤ m) × (m ≤ n) → m ≡ n
 exactly n m p = omega (arith, p.0, p.1)
@@ -86,7 +85,7 @@ edge_row = record { sound = edge_sound; whole = edge_whole }
 within : (x : ℤ) → unsigned_abs x ≤ 1048576 → IsWithin GRID x
 within x le = record { least = omega (arith, ints); greatest = omega (arith, ints) }
 
-at_most : (x : ℤ) → IsWithin GRID x → unsigned_abs x ≤ 1048576
+pub at_most : (x : ℤ) → IsWithin GRID x → unsigned_abs x ≤ 1048576
 at_most x w = let low = w.least in let high = w.greatest in omega (arith, ints)
 
 nought : (x : ℤ) → unsigned_abs x ≤ 0 → x ≡ pos 0
@@ -230,9 +229,9 @@ mesh_sound shift is m p =
     let en = ending_sound d.value d.front d.first in
     let made : Mesh = record { shift = shift; points = c.value; edges = b.value; elements = a.value } in
     let same : is ≡ mesh_items made = a.same ∙ ap (λ (ys : List Item). ys ++ a.back) es.0 ∙ ap (λ (ys : List Item). elements_part a.value ++ ys)
-        (b.same ∙ ap (λ (ys : List Item). ys ++ b.back) ed.0 ∙ ap (λ (ys : List Item). edges_alone b.value ++ ys)
-        (c.same ∙ ap (λ (ys : List Item). ys ++ c.back) ps.0 ∙ ap (λ (ys : List Item). (Fixed points_word ∷ counted_items point_items c.value) ++ ys)
-        (d.same ∙ ap (λ (ys : List Item). ys ++ d.back) en ∙ ap (λ (ys : List Item). Fixed endmesh ∷ ys) d.then.0))) in
+    (b.same ∙ ap (λ (ys : List Item). ys ++ b.back) ed.0 ∙ ap (λ (ys : List Item). edges_alone b.value ++ ys)
+    (c.same ∙ ap (λ (ys : List Item). ys ++ c.back) ps.0 ∙ ap (λ (ys : List Item). (Fixed points_word ∷ counted_items point_items c.value) ++ ys)
+    (d.same ∙ ap (λ (ys : List Item). ys ++ d.back) en ∙ ap (λ (ys : List Item). Fixed endmesh ∷ ys) d.then.0))) in
     let ranges : InRanges made = record { elements = es.1; each_element = es.2; edges = ed.1; each_edge = ed.2; points = ps.1; each_point = ps.2 } in
     let is_made : IsMesh shift is made = record { same = same; ranges = ranges; shifted = refl } in
     subst (λ (x : Mesh). IsMesh shift is x) d.then.1 is_made

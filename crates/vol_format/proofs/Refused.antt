@@ -1,23 +1,23 @@
 -- A text is refused at the first word with which no text goes on, and has no other refusal.
-use Rattle.std.proofs.Common.{◌≡◌, ◌≢◌, ◌⊎◌, inl, inr, ℕ, zero, suc, ◌+◌, ◌<◌, ◌≤◌, Bool, true, false, ◌&&◌, cond, List, [], ◌∷◌, ◌++◌, length, Option, Some, None, Result, Ok, Err, refl, sym, ap, subst, ◌∙◌, arith}
-use Rattle.std.specs.Prelude.{ℤ, nat_le, IfOk, IfErr, MatchResult}
+use Rattle.std.proofs.Common.{◌≡◌, ◌≢◌, inl, inr, ℕ, ◌+◌, ◌<◌, Bool, true, false, List, [], ◌∷◌, ◌++◌, length, Option, Some, None, Ok, Err, refl, sym, ap, subst, ◌∙◌, arith}
+use Rattle.std.specs.Prelude.{ℤ, nat_le}
 use Rattle.std.proofs.lemmas.List.{append-nil}
-use Rattle.std.proofs.lemmas.Bool.{le-leb, leb-false}
-use Rattle.word_scan.specs.Numerals.{IsWhole, value_of, is_whole, whole_of}
+use Rattle.std.proofs.lemmas.Bool.{leb-false}
+use Rattle.word_scan.specs.Numerals.{value_of, is_whole, whole_of}
 use Rattle.vol_format.specs.declared.Mesh.{Mesh}
 use Rattle.vol_format.specs.declared.refusal.TheConstants.{MOST_ROWS}
 use Rattle.vol_format.specs.declared.refusal.VolRefusal.{VolRefusal}
 use Rattle.vol_format.specs.declared.refusal.VolRefusal.TheVariants.{Syntax, Number as NumberAt, TooMany, BadIndex, Memory}
 use Rattle.vol_format.specs.Vol.{places}
-use Rattle.vol_format.specs.Text.{Word, Item, Fixed, Number, Coordinate, Plain, Count, PointNumber, mesh_items, Derives, Known}
-use Rattle.vol_format.specs.Refusals.{IsFront, Stops, Misses, Wants, IsNumber, PassesLimit, Misnames, Refuses}
-use Rattle.vol_format.specs.Reading.{Need, NeedWord, NeedNumber, NeedPoint, NeedCount, NeedPlace, Given, got, refused, Form, Leaf, Ask, State, Read, run, asked, ended, known, known_if, walked, mesh_of, Gives}
+use Rattle.vol_format.specs.Text.{Word, Item, Number, Count, Derives, Known}
+use Rattle.vol_format.specs.Refusals.{IsFront, Stops, Misses, Wants, IsNumber, PassesLimit, Refuses}
+use Rattle.vol_format.specs.Reading.{Need, NeedWord, NeedNumber, NeedPoint, NeedCount, NeedPlace, Given, got, refused, Form, Leaf, Ask, run, asked, ended, known, mesh_of}
 use Rattle.vol_format.proofs.Words.{told_whole, whole_told}
 use Rattle.vol_format.proofs.Asks.{item_of}
-use Rattle.vol_format.proofs.Leads.{spot, Reach, reach_more, Outcome, Done, Short, Wrong, outcome}
+use Rattle.vol_format.proofs.Leads.{spot, Reach, reach_more}
 use Rattle.vol_format.proofs.Meshes.{mesh_form}
-use Rattle.vol_format.proofs.Derived.{text_read, as_run, reach_front, front_reach, reach_derives, read_front, text_is_read, Asked, wants_asked, Wanted, asked_wanted}
-use Rattle.vol_format.proofs.PointNumbers.{Checked, IsKnown, IsBad, checked, known_passes, misnamed_refused}
+use Rattle.vol_format.proofs.Derived.{text_read, reach_front, front_reach, reach_derives, read_front, text_is_read, wants_asked, asked_wanted}
+use Rattle.vol_format.proofs.PointNumbers.{known_passes, misnamed_refused}
 
 -- ---- the refusal of a word, by what is needed
 

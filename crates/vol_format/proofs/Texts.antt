@@ -1,18 +1,11 @@
 -- Each front of a mesh's text goes on to a text.
-use Rattle.std.proofs.Common.{◌≡◌, ℕ, zero, suc, ◌+◌, ◌*◌, ◌≤◌, List, [], ◌∷◌, ◌++◌, Some, refl, sym, ap, ◌∙◌, arith}
+use Rattle.std.proofs.Common.{◌≡◌, ℕ, zero, suc, ◌*◌, ◌≤◌, List, [], ◌∷◌, ◌++◌, Some, refl, sym, ap, ◌∙◌, arith}
 use Rattle.std.specs.Prelude.{ℤ, pos, ◌+ℤ◌, ◌*ℤ◌, neg_ℤ}
-use Rattle.std.specs.Str.Parse.{digits_value}
 use Rattle.std.proofs.Math.IntN.{pos-*ℤ-pos}
-use Rattle.word_scan.specs.declared.decimals.Dec.{Dec}
-use Rattle.word_scan.specs.Numerals.{IsWhole, value_of}
+use Rattle.word_scan.specs.Numerals.{IsWhole}
 use Rattle.word_scan.specs.Decimals.{decimal_of}
-use Rattle.grid_geom.specs.declared.Point.{Point}
-use Rattle.vol_format.specs.declared.EdgeRow.{EdgeRow}
-use Rattle.vol_format.specs.declared.MeshElement.{MeshElement}
-use Rattle.vol_format.specs.declared.Mesh.{Mesh}
-use Rattle.vol_format.specs.declared.refusal.TheConstants.{MOST_ROWS}
-use Rattle.vol_format.specs.Text.{Word, tens, IsPlace, mesh3d, dimension, geomtype, surfaceelements, volumeelements, edgesegmentsgi2, points_word, endmesh}
-use Rattle.vol_format.specs.Reading.{Need, NeedWord, NeedNumber, NeedPoint, NeedCount, NeedPlace, Given, got, Form, Leaf, Ask, ◌>>=◌, element_form, edge_form, point_form, rows_behind, counted_rows, elements_form, edges_form, points_form, ending_form}
+use Rattle.vol_format.specs.Text.{Word, tens, mesh3d, dimension, geomtype, surfaceelements, volumeelements, edgesegmentsgi2, points_word, endmesh}
+use Rattle.vol_format.specs.Reading.{NeedWord, NeedNumber, NeedPoint, NeedCount, NeedPlace, got, Form, Leaf, element_form, edge_form, point_form, rows_behind, counted_rows, elements_form, edges_form, points_form, ending_form}
 use Rattle.vol_format.proofs.Asks.{got_says, says_got}
 use Rattle.vol_format.proofs.Leads.{Good, good_then}
 use Rattle.vol_format.proofs.Meshes.{after_points, after_edges, after_elements, mesh_form}
@@ -31,13 +24,13 @@ w2 = 50 ∷ []
 abbrev w3 : Word
 w3 = 51 ∷ []
 
-whole0 : IsWhole w0
+pub whole0 : IsWhole w0
 whole0 = record { digits = refl; some = omega arith; few = omega arith }
 
 whole1 : IsWhole w1
 whole1 = record { digits = refl; some = omega arith; few = omega arith }
 
-whole2 : IsWhole w2
+pub whole2 : IsWhole w2
 whole2 = record { digits = refl; some = omega arith; few = omega arith }
 
 whole3 : IsWhole w3
@@ -65,14 +58,14 @@ count_in k = says_got k NeedCount w0 0 (whole0, refl) (omega arith)
 again : (k least greatest : ℕ) (w : Word) (n : ℕ) → got k (NeedNumber least greatest) w ≡ Some n → got k (NeedNumber n n) w ≡ Some n
 again k least greatest w n e = says_got k (NeedNumber n n) w n (got_says k (NeedNumber least greatest) w n e).0 (omega arith, omega arith)
 
-nought_read : decimal_of w0 ≡ Some (record { digits = pos 0; scale = pos 0 })
+pub nought_read : decimal_of w0 ≡ Some (record { digits = pos 0; scale = pos 0 })
 unfolding decimal_of
 nought_read = refl
 
-nought_times : (t : ℕ) → pos 0 *ℤ pos t ≡ pos 0
+pub nought_times : (t : ℕ) → pos 0 *ℤ pos t ≡ pos 0
 nought_times t = let none : 0 * t ≡ 0 = omega arith in pos-*ℤ-pos 0 t ∙ ap pos none
 
-place_in : (k greatest : ℕ) → got k (NeedPlace greatest) w0 ≡ Some (pos 0)
+pub place_in : (k greatest : ℕ) → got k (NeedPlace greatest) w0 ≡ Some (pos 0)
 place_in k greatest =
     let z = pos 0 +ℤ pos k in
     says_got k (NeedPlace greatest) w0 (pos 0) (record { digits = pos 0; scale = pos 0 }, nought_read, nought_times (tens z) ∙ sym (nought_times (15625 * tens (neg_ℤ z)))) (omega arith)
@@ -88,9 +81,38 @@ good_element k = (w1, 1, one_in k 64 (omega arith), λ w d e. (w, d, again k 1 6
 
 good_edge : (k : ℕ) → Good k edge_form
 unfolding edge_form
-good_edge k =
-    (w0, 0, zero_in k 999999, λ x1 u1 e1. (w0, 0, zero_in k 0, λ x2 u2 e2. (w0, 0, point_in k, λ x3 u3 e3. (w0, 0, point_in k, λ x4 u4 e4. (w0, 0, zero_in k 0, λ x5 u5 e5. (w0, 0, zero_in k 0, λ x6 u6 e6.
-    (w0, 0, zero_in k 64, λ x7 u7 e7. (w0, 0, zero_in k 64, λ x8 u8 e8. (w1, 1, one_in k 4096 (omega arith), λ w s e. (w0, 0, zero_in k 0, λ x9 u9 e9. (w, s, again k 1 4096 w s e, λ xa ua ea. (w0, 0, zero_in k 0, λ xb ub eb. tt))))))))))))
+good_edge k = (
+  w0,
+  0,
+  zero_in k 999999,
+  λ x1 u1 e1. (
+    w0,
+    0,
+    zero_in k 0,
+    λ x2 u2 e2. (
+      w0,
+      0,
+      point_in k,
+      λ x3 u3 e3. (
+        w0,
+        0,
+        point_in k,
+        λ x4 u4 e4. (
+          w0,
+          0,
+          zero_in k 0,
+          λ x5 u5 e5. (
+            w0,
+            0,
+            zero_in k 0,
+            λ x6 u6 e6.
+                (w0, 0, zero_in k 64, λ x7 u7 e7. (w0, 0, zero_in k 64, λ x8 u8 e8. (w1, 1, one_in k 4096 (omega arith), λ w s e. (w0, 0, zero_in k 0, λ x9 u9 e9. (w, s, again k 1 4096 w s e, λ xa ua ea. (w0, 0, zero_in k 0, λ xb ub eb. tt)))))),
+          ),
+        ),
+      ),
+    ),
+  ),
+)
 
 good_point : (k : ℕ) → Good k point_form
 unfolding point_form

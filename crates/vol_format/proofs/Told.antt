@@ -1,5 +1,5 @@
 -- What is refused is refused so: the refusal's word and kind are as the grammar has them.
-use Rattle.std.proofs.Common.{◌≡◌, ◌≢◌, ◌⊎◌, inl, inr, ℕ, zero, suc, ◌+◌, ◌<◌, ◌≤◌, Bool, true, false, List, [], ◌∷◌, ◌++◌, length, Option, Some, None, Result, Ok, Err, refl, sym, ap, subst, ◌∙◌, arith}
+use Rattle.std.proofs.Common.{◌≡◌, ◌≢◌, ◌⊎◌, inl, inr, ℕ, ◌+◌, ◌≤◌, Bool, true, false, List, [], ◌∷◌, ◌++◌, length, Some, None, Result, Ok, Err, refl, sym, ap, subst, ◌∙◌, arith}
 use Rattle.std.specs.Prelude.{ℤ, IfOk, IfErr, MatchResult}
 use Rattle.std.proofs.lemmas.List.{append-nil}
 use Rattle.std.proofs.lemmas.List.{length-map}
@@ -12,14 +12,14 @@ use Rattle.vol_format.specs.declared.Mesh.{Mesh}
 use Rattle.vol_format.specs.declared.refusal.VolRefusal.{VolRefusal}
 use Rattle.vol_format.specs.declared.refusal.VolRefusal.TheVariants.{Syntax, Number as NumberAt, TooMany, BadIndex, Memory}
 use Rattle.vol_format.specs.Vol.{places}
-use Rattle.vol_format.specs.Text.{Word, Item, Says, mesh_items, Derives, Known}
-use Rattle.vol_format.specs.Refusals.{IsFront, Stops, Wants, IsNumber, Refuses}
+use Rattle.vol_format.specs.Text.{Word, Says, mesh_items, Derives, Known}
+use Rattle.vol_format.specs.Refusals.{Stops, IsNumber, Refuses}
 use Rattle.vol_format.specs.Reading.{Need, NeedWord, NeedNumber, NeedPoint, NeedCount, NeedPlace, Given, got, refused, Form, Leaf, Ask, State, run, ended, ended_at, at_start, mesh_at, known, mesh_of, Gives}
 use Rattle.vol_format.proofs.Words.{told_whole, whole_told, few_words}
 use Rattle.vol_format.proofs.Asks.{item_of}
 use Rattle.vol_format.proofs.Leads.{spot, Reach, Outcome, Done, Short, Wrong, outcome}
 use Rattle.vol_format.proofs.Meshes.{mesh_form}
-use Rattle.vol_format.proofs.Derived.{text_read, as_run, reach_front, front_reach, reach_derives, text_is_read, Asked, wants_asked, Wanted, asked_wanted}
+use Rattle.vol_format.proofs.Derived.{text_read, as_run, reach_front, front_reach, reach_derives, text_is_read, wants_asked, Wanted, asked_wanted}
 use Rattle.vol_format.proofs.PointNumbers.{Checked, IsKnown, IsBad, checked}
 use Rattle.vol_format.proofs.Refused.{past_limit, not_both, refuses_back, derives_back}
 
@@ -65,9 +65,13 @@ count_told false shift words at w s e none wanted =
 -- a word that is not what is needed
 wrong_told : (shift : ℤ) (words : List Word) (at : ℕ) (w : Word) (s : Stops shift words at w) (need : Need) (form : Given need → Form Mesh) → Reach (places shift) (mesh_form shift) s.before (Ask need form) → got (places shift) need w ≡ None → Refuses shift words (refused need at w)
 wrong_told shift words at w s (NeedWord text) form reach none =
-    inl (w, s, λ item wants is.
-    let a = wants_asked shift s.before (Ask (NeedWord text) form) item reach wants in
-    word_wanted text a.need a.value (ap need_of a.is) (subst IsNumber a.same is))
+    inl (
+      w,
+      s,
+      λ item wants is.
+          let a = wants_asked shift s.before (Ask (NeedWord text) form) item reach wants in
+          word_wanted text a.need a.value (ap need_of a.is) (subst IsNumber a.same is),
+    )
 wrong_told shift words at w s (NeedNumber least greatest) form reach none = let n = asked_wanted shift s.before (NeedNumber least greatest) form reach in (w, s, item_of (NeedNumber least greatest) n.value, n.wants, tt, λ p. p)
 wrong_told shift words at w s NeedPoint form reach none = let n = asked_wanted shift s.before NeedPoint form reach in (w, s, item_of NeedPoint n.value, n.wants, tt, λ p. p)
 wrong_told shift words at w s NeedCount form reach none = count_told (is_whole w) shift words at w s refl none (asked_wanted shift s.before NeedCount form reach)

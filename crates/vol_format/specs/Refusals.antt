@@ -13,7 +13,7 @@ use Rattle.vol_format.specs.declared.Mesh.{Mesh}
 use Rattle.vol_format.specs.declared.refusal.TheConstants.{MOST_ROWS}
 use Rattle.vol_format.specs.declared.refusal.VolRefusal.{VolRefusal}
 use Rattle.vol_format.specs.declared.refusal.VolRefusal.TheVariants as refusals
-use Rattle.vol_format.specs.Text.{Word, Item, Fixed, Number, Coordinate, Role, Plain, Count, PointNumber, mesh_items, Derives, Names}
+use Rattle.vol_format.specs.Text.{Word, Item, Fixed, Number, Coordinate, Count, mesh_items, Derives, Names}
 
 abbrev pub refusal_number : VolRefusal → ℕ
 refusal_number (refusals.Syntax word) = 1

@@ -6,7 +6,7 @@
 -- InRanges    the mesh's numbers are in the ranges of the text
 -- Derives     the words are a text of this mesh
 -- Known       each point number of the mesh names one of its points
-use Rattle.std.specs.Prelude.{◌≡◌, ℕ, ◌+◌, ◌*◌, ◌<◌, ◌≤◌, ◌^◌, List, [], ◌∷◌, ◌++◌, length, Some, ℤ, pos, negsuc, neg_ℤ, ◌+ℤ◌, ◌*ℤ◌, codes}
+use Rattle.std.specs.Prelude.{◌≡◌, ℕ, ◌*◌, ◌<◌, ◌≤◌, ◌^◌, List, [], ◌∷◌, ◌++◌, length, Some, ℤ, pos, negsuc, neg_ℤ, ◌+ℤ◌, ◌*ℤ◌, codes}
 use Rattle.std.specs.List.{flat_map, AllByRecursion, AllZip}
 use Rattle.word_scan.specs.declared.decimals.Dec.{Dec}
 use Rattle.word_scan.specs.Numerals.{IsWhole, value_of}

@@ -4,7 +4,9 @@ ghost use Rattle.std.specs.Prelude.{◌≡◌, ◌≢◌, List, ℤ};
 ghost use Rattle.vol_format.specs.declared.Mesh.{Mesh};
 ghost use Rattle.vol_format.specs.declared.refusal.VolRefusal.{VolRefusal};
 ghost use Rattle.vol_format.specs.declared.refusal.VolRefusal.TheVariants.{Memory};
-ghost use Rattle.vol_format.specs.Text.{Word, Derives, Known};
+ghost use Rattle.vol_format.specs.Text.{Word, Derives, InRanges, Known};
+ghost use Rattle.vol_format.specs.Vol.{IsShift, vol_text};
+ghost use Rattle.word_scan.specs.Scan.{words_of};
 ghost use Rattle.vol_format.specs.Refusals.{Refuses};
 
 /// No list of words is a text of two meshes of one shift.
@@ -19,4 +21,9 @@ pub fn one_refusal()
         → Refuses shift words e → Refuses shift words f → e ≡ f }
     ensures none { (shift : ℤ) (words : List Word) (m : Mesh) (f : VolRefusal) → f ≢ Memory
         → Derives shift words m → Known m → ¬ Refuses shift words f }
+{}
+
+/// The text that is written of a mesh is a text of it, where its numbers are in the ranges of the text.
+pub fn read_again()
+    ensures { (m : Mesh) → IsShift m.shift → InRanges m → Derives m.shift (words_of (vol_text m)) m }
 {}

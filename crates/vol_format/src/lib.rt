@@ -3,7 +3,14 @@
 //! A mesh has points on the grid, elements whose corners are numbers of its points, and edge rows:
 //! the pieces of the geometry's segments, whose ends are numbers of its points too. Point numbers
 //! begin at 1.
+//!
+//! 1. A text is read word by word, and the first word that doesn't fit is the one that is refused.
+//! 2. A coordinate is read exactly, and memory is taken as rows are read, never by a count.
+//! 3. Point numbers are held against the points where the whole text is read.
 #![tactic(auto)]
+
+ghost use Rattle.std.specs.Prelude.{◌≡◌, ◌≤◌};
+ghost use Rattle.vol_format.specs.Vol.{IsShift, places};
 
 mod coordinate;
 mod indices;
@@ -60,4 +67,13 @@ pub struct Mesh {
     pub edges: EdgeRows,
     /// The elements by rising domain, in order of making.
     pub elements: MeshElements,
+}
+
+/// How many decimals the coordinates of a mesh's text have.
+fn places_of(shift: &i32) -> u32
+    requires { IsShift shift.now }
+    ensures value { result ≡ places shift.now }
+    ensures few { result ≤ 14 }
+{
+    (*shift + 6) as u32
 }

@@ -1,17 +1,17 @@
 //! Reading a mesh.
 
-ghost use Rattle.std.specs.Prelude.{◌≡◌, ◌≢◌, ◌⊎◌, ◌≤◌, IfOk, IfErr, MatchResult};
+ghost use Rattle.std.specs.Prelude.{◌≡◌, ◌≢◌, ◌⊎◌, IfOk, IfErr, MatchResult};
 ghost use Rattle.word_scan.specs.Scan.{words_of};
 ghost use Rattle.vol_format.specs.declared.Mesh.{Mesh};
 ghost use Rattle.vol_format.specs.declared.refusal.VolRefusal.{VolRefusal};
-ghost use Rattle.vol_format.specs.Vol.{IsShift, places};
+ghost use Rattle.vol_format.specs.Vol.{IsShift};
 ghost use Rattle.vol_format.specs.Text.{Derives, Known};
 ghost use Rattle.vol_format.specs.Refusals.{Refuses};
 ghost use Rattle.vol_format.specs.Reading.{mesh_at, mesh_of, GivesAt, Gives};
 
 use crate::reader::Reader;
 use crate::refusal::VolRefusal;
-use crate::{EdgeRows, Mesh, MeshElements, indices, rows};
+use crate::{EdgeRows, Mesh, MeshElements, indices, places_of, rows};
 use grid_geom::Points;
 use std::alloc::Global;
 
@@ -40,15 +40,6 @@ pub fn read_vol(alloc: Global, bytes: &[u8], shift: i32) -> Result<Mesh, VolRefu
     ensures exact { Gives (λ m. m) result (mesh_of shift (words_of bytes.now)) }
 {
     read(alloc, bytes, &shift)
-}
-
-/// How many decimals the coordinates of a mesh have.
-fn places_of(shift: &i32) -> u32
-    requires { IsShift shift.now }
-    ensures value { result ≡ places shift.now }
-    ensures few { result ≤ 14 }
-{
-    (*shift + 6) as u32
 }
 
 /// The mesh that comes next.

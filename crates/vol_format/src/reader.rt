@@ -32,9 +32,9 @@ impl<'a> Model for Reader<'a> {
     ghost Value = { State };
 
     ghost view = { λ r. record {
-        places = r.places;
-        at = r.at;
-        left = map (bytes_of r.scanner.text) r.scanner.left;
+      places = r.places;
+      at = r.at;
+      left = map (bytes_of r.scanner.text) r.scanner.left;
     } };
 
     ghost invariant = { λ r. (r.places ≤ 14) × (r.at + length r.scanner.left < 2 ^ 64) };
@@ -126,10 +126,7 @@ impl<'a> Reader<'a> {
         let Some(word) = self.next() else {
             return Err(VolRefusal::Syntax { word: at });
         };
-        match number_in(word, least, greatest) {
-            Some(number) => Ok(number),
-            None => Err(VolRefusal::Number { word: at }),
-        }
+        number_in(word, least, greatest).ok_or(VolRefusal::Number { word: at })
     }
 
     /// The number of a point, which may not be there.
@@ -141,10 +138,7 @@ impl<'a> Reader<'a> {
         let Some(word) = self.next() else {
             return Err(VolRefusal::Syntax { word: at });
         };
-        match whole(word, MOST_ROWS) {
-            Some(number) => Ok(number),
-            None => Err(VolRefusal::Number { word: at }),
-        }
+        whole(word, MOST_ROWS).ok_or(VolRefusal::Number { word: at })
     }
 
     /// How many rows follow.
@@ -174,10 +168,7 @@ impl<'a> Reader<'a> {
         let Some(word) = self.next() else {
             return Err(VolRefusal::Syntax { word: at });
         };
-        match place_in(word, places, greatest) {
-            Some(place) => Ok(place),
-            None => Err(VolRefusal::Number { word: at }),
-        }
+        place_in(word, places, greatest).ok_or(VolRefusal::Number { word: at })
     }
 
     /// Refuses the word that comes next, if one is left.

@@ -80,3 +80,95 @@ fn writes_the_decimals_of_a_shift(rt: HostRuntime) -> Result<(), Fail> {
     assert_eq!(rt; fine.as_slice(), decimals.as_bytes());
     Ok(())
 }
+
+// A text of one element at the shift -6, where a grid step is 15625, word by word.
+const WORDS: [&str; 31] = [
+    "mesh3d",
+    "dimension",
+    "2",
+    "geomtype",
+    "0",
+    "surfaceelements",
+    "1",
+    "1",
+    "1",
+    "0",
+    "0",
+    "3",
+    "1",
+    "2",
+    "3",
+    "volumeelements",
+    "0",
+    "edgesegmentsgi2",
+    "0",
+    "points",
+    "3",
+    "0",
+    "0",
+    "0",
+    "15625",
+    "0",
+    "0",
+    "0",
+    "15625",
+    "0",
+    "endmesh",
+];
+
+// This text with other words in the place of word number `at`.
+fn with(alloc: Global, at: usize, words: &str) -> Result<String, AllocError> {
+    let mut text = String::new(alloc);
+    for (before, word) in WORDS.iter().enumerate() {
+        text.push_str(if before.wrapping_add(1) == at {
+            words
+        } else {
+            word
+        })?;
+        text.push_str("\r\n")?;
+    }
+    Ok(text)
+}
+
+fn refusal(alloc: Global, at: usize, words: &str) -> Option<VolRefusal> {
+    match with(alloc, at, words) {
+        Ok(text) => read_vol(alloc, text.as_bytes(), -6).err(),
+        Err(_) => Some(VolRefusal::Memory),
+    }
+}
+
+#[test]
+fn refusals(rt: HostRuntime) {
+    let syntax = |word: u64| Some(VolRefusal::Syntax { word });
+    let number = |word: u64| Some(VolRefusal::Number { word });
+    let bad_index = |word: u64| Some(VolRefusal::BadIndex { word });
+    assert!(rt; refusal(rt.alloc(), 1, "mesh") == syntax(1));
+    assert!(rt; refusal(rt.alloc(), 3, "3") == number(3));
+    assert!(rt; refusal(rt.alloc(), 7, "16777217") == Some(VolRefusal::TooMany { word: 7 }));
+    assert!(rt; refusal(rt.alloc(), 7, "00000016777217") == number(7));
+    assert!(rt; refusal(rt.alloc(), 7, "2") == number(16));
+    assert!(rt; refusal(rt.alloc(), 7, "0") == syntax(8));
+    assert!(rt; refusal(rt.alloc(), 9, "2") == number(9));
+    assert!(rt; refusal(rt.alloc(), 13, "0") == bad_index(13));
+    assert!(rt; refusal(rt.alloc(), 15, "4") == bad_index(15));
+    assert!(rt; refusal(rt.alloc(), 13, "0 2 3 volumeelements x") == number(17));
+    assert!(rt; refusal(rt.alloc(), 22, "15624") == number(22));
+    assert!(rt; refusal(rt.alloc(), 22, "16384015625") == number(22));
+    assert!(rt; refusal(rt.alloc(), 24, "1") == number(24));
+    assert!(rt; refusal(rt.alloc(), 31, "# endmesh") == syntax(31));
+    assert!(rt; refusal(rt.alloc(), 31, "endmesh endmesh") == syntax(32));
+}
+
+#[test]
+fn reads_other_spellings(rt: HostRuntime) -> Result<(), Fail> {
+    assert!(rt; refusal(rt.alloc(), 3, "02 # a plane") == None);
+    let text = with(rt.alloc(), 25, "-1.6384e10")?;
+    let mesh = read_vol(rt.alloc(), text.as_bytes(), -6)
+        .ok()
+        .ok_or("the text is a mesh's")?;
+    let [_, left, _] = mesh.points.as_slice() else {
+        return Err("there are three points".into());
+    };
+    assert!(rt; left.x == -1_048_576 && left.y == 0);
+    Ok(())
+}

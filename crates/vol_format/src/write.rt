@@ -4,7 +4,7 @@ ghost use Rattle.std.specs.Prelude.{◌≡◌, ◌≤◌, IfOk, pos, ◌*ℤ◌}
 ghost use Rattle.text_rows.specs.Rows.{Appends};
 ghost use Rattle.vol_format.specs.Vol.{IsShift, places, coordinate, element_row, edge_row, point_row, counted, heading, edge_heading, point_heading, ending, vol_text};
 
-use super::{EdgeRow, Mesh, MeshElement};
+use super::{EdgeRow, Mesh, MeshElement, places_of};
 use grid_geom::Point;
 use std::alloc::{AllocError, Global};
 use text_rows::{write_fixed, write_number_row};
@@ -22,17 +22,9 @@ pub fn write_vol(alloc: Global, m: &Mesh) -> Result<Vec<u8>, AllocError>
     write_edge_heading(&mut text)?;
     write_edges(&mut text, m.edges.as_slice())?;
     write_point_heading(&mut text)?;
-    write_points(&mut text, m.points.as_slice(), places_of(m))?;
+    write_points(&mut text, m.points.as_slice(), places_of(&m.shift))?;
     write_ending(&mut text)?;
     Ok(text.into_bytes())
-}
-
-fn places_of(m: &Mesh) -> u32
-    requires { IsShift m.now.shift }
-    ensures value { result ≡ places m.now.shift }
-    ensures few { result ≤ 14 }
-{
-    (m.shift + 6) as u32
 }
 
 #[tactic(auto, unfolding(crate::specs::Vol::heading))]

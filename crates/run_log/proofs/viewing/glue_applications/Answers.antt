@@ -1,7 +1,7 @@
-use Rattle.std.proofs.Common.{◌≡◌, ℕ, ◌+◌, ◌<◌, ap, ◌∙◌, sym, length, arith}
+use Rattle.std.proofs.Common.{◌<◌, ap, ◌∙◌, length, arith}
 use Rattle.std.specs.List.{flat_map}
 use Rattle.state_law.specs.State.{number_sides, glue_lines, next_after_all}
-use Rattle.run_log.proofs.Sides.{IsGlued, glued_step, count_step}
+use Rattle.run_log.proofs.Sides.{glued_step, count_step}
 use Rattle.run_log.proofs.viewing.glue_applications.Goals as goal
 
 pub loop-application-preserved : goal.loop-application-preserved

@@ -1,6 +1,6 @@
-use Rattle.std.proofs.Common.{◌≡◌, ap, ◌∙◌, sym, length, arith}
+use Rattle.std.proofs.Common.{◌≡◌, ap, ◌∙◌, arith}
 use Rattle.state_law.specs.State.{number_sides, glue_lines, next_after_all}
-use Rattle.run_log.proofs.Sides.{IsGlued, glued_step}
+use Rattle.run_log.proofs.Sides.{glued_step}
 use Rattle.run_log.proofs.viewing.glue_elements.Goals as goal
 
 pub loop-element-preserved : goal.loop-element-preserved

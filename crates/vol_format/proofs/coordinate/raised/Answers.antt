@@ -1,4 +1,4 @@
-use Rattle.std.proofs.Common.{◌≤◌, ◌<◌, ◌⊎◌, inl, inr, ◌∙◌, sym, arith}
+use Rattle.std.proofs.Common.{◌≤◌, ◌<◌, ◌⊎◌, inl, inr, sym, arith}
 use Rattle.vol_format.proofs.Divided.{raised_too_far}
 use Rattle.vol_format.proofs.coordinate.raised.Goals as goal
 use Rattle.vol_format.proofs.coordinate.raised.Goals.{then-power-gt10-via-then-power-gt10, then-power-gt10-via-else-power-gt10+then-size-ge100000000000}

@@ -1,5 +1,4 @@
-use Rattle.vol_format.proofs.Leads.{outcome}
-use Rattle.vol_format.proofs.Derived.{asked_wanted, one_mesh}
+use Rattle.vol_format.proofs.Derived.{one_mesh}
 use Rattle.vol_format.proofs.laws.one_value.Goals as goal
 
 pub returns : goal.returns

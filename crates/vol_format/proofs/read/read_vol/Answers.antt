@@ -2,9 +2,6 @@ use Rattle.std.proofs.Common.{ℤ, subst}
 use Rattle.std.proofs.lemmas.Int.{to_z-of_z}
 use Rattle.std.specs.Int.{w32}
 use Rattle.word_scan.specs.Scan.{words_of}
-use Rattle.vol_format.specs.declared.Mesh.{Mesh}
-use Rattle.vol_format.specs.declared.refusal.VolRefusal.{VolRefusal}
-use Rattle.vol_format.specs.Text.{Word}
 use Rattle.vol_format.specs.Reading.{mesh_of, Gives}
 use Rattle.vol_format.proofs.Told.{is_found, is_only, is_refused, is_refused_only}
 use Rattle.vol_format.proofs.read.read_vol.Goals as goal

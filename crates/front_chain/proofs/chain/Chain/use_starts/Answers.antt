@@ -4,7 +4,7 @@ use Rattle.std.proofs.lemmas.Fn.{filter_same}
 use Rattle.front_chain.specs.Tables.{is_positive}
 use Rattle.front_chain.proofs.Above.{positive_leaves}
 use Rattle.front_chain.proofs.Lines.{all_above}
-use Rattle.front_chain.proofs.Walks.{walk_is}
+use Rattle.front_chain.proofs.Boxed.{boxes_walk}
 use Rattle.front_chain.proofs.chain.Chain.use_starts.Goals as goal
 
 pub returns-clause-waiting : goal.returns-clause-waiting
@@ -13,7 +13,7 @@ returns-clause-waiting c = filter_same _ (λ n. not (is_positive c.self.inside.l
     ∙ ap (λ v. filter (λ n. not (list_any (λ line. nat_eq line.1 n) v.lines)) v.waiting) c.self.view_is
 
 pub returns-clause-walked : goal.returns-clause-walked
-returns-clause-walked c = walk_is c.self.inside.order.made c.self.inside.sides.entries c.self.invariant.0 c.self.invariant.1
+returns-clause-walked c = boxes_walk c.self.invariant.2
 
 pub returns-clause-positive : goal.returns-clause-positive
 returns-clause-positive c = all_above 0 1 c.self.inside.order.made (omega arith)

@@ -33,3 +33,8 @@ invariant_of-result c =
       front_as (opened c.args.points.now c.args.lines.now new.walk) new (sym points) (sym lines) (sym next) (λ i. new.walk) (sym waiting) (front_opened c.args.points.now c.args.lines.now new.walk c.requires walked),
       simp to_z-of_z (c.swept_area-area.ensures ∙ ap shoelace (sym (edges_opened c.args.points.now 1 c.args.lines.now)) ∙ sym (λ i. shoelace (front_edges (points i) (lines i)))),
     )
+
+pub returns-clause-waiting : goal.returns-clause-waiting
+returns-clause-waiting c =
+    let numbers = c.join_lines.ensures.waiting ∙ c.list_points.ensures.waiting in
+    c.use_starts.ensures.waiting ∙ (λ i. filter (λ n. not (list_any (λ line. nat_eq line.1 n) (sym c.use_starts.ensures.lines i))) (numbers i))

@@ -1,32 +1,36 @@
-use Rattle.std.proofs.Common.{◌≤◌, IfSome, Option, Some, None, sym, ap, ◌∙◌, arith}
+use Rattle.std.proofs.Common.{refl, subst, IfOk, IfSome, IfNone}
+use Rattle.front_chain.specs.Front.{state_of}
 use Rattle.rule_match.specs.declared.application.Application.{Application}
-use Rattle.mesh_run.specs.Steps.{IsNext}
-use Rattle.mesh_run.specs.RunState.{RunState, IsFirstOfClass, IsClassSpent, setting_by}
-use Rattle.mesh_run.proofs.SameState.{none_there}
-use Rattle.mesh_run.proofs.Searched.{next_found, one_more, none_found}
+use Rattle.mesh_run.specs.RunState.{RunState, setting_by}
+use Rattle.mesh_run.specs.Steps.{RunSetting, IsNext, NothingApplies}
+use Rattle.mesh_run.proofs.SameState.{of_found, of_none}
+use Rattle.mesh_run.proofs.Searched.{same_next, same_nothing, same_true}
+use Rattle.mesh_run.specs.declared.run.Run.TheInside.{Inside}
 use Rattle.mesh_run.proofs.run.Run.next_application.Goals as goal
 
-if_some : (P Q : Application → Type 0) (o : Option Application) → ((a : Application) → P a → Q a) → IfSome o P → IfSome o Q
-if_some P Q (Some a) f h = f a h
-if_some P Q None f h = tt
+abbrev setting : Inside → RunSetting
+setting r = record { sizes = r.sizes; rules = r.rules.now; last = r.options.last }
 
-pub returns-then-is_some-clause-next : goal.returns-then-is_some-clause-next
-returns-then-is_some-clause-next g c =
-    let r = c.args.self.now in
-    let last = ap (λ (r : RunState). r.basis.options.last) c.self.view_is in
-    let within : c.loop-class.class ≤ r.basis.options.last = omega arith in
-    let first : 1 ≤ c.loop-class.class = omega arith in
-    if_some (IsFirstOfClass (setting_by r.basis) r.state c.loop-class.class) (IsNext (setting_by r.basis) r.state) c.in_ok-found.found
-    (λ a h. next_found (setting_by r.basis) r.state c.loop-class.class c.loop-class.invariant a first within h) c.in_ok-found.ensures.least
+pub next_in-requires-clause-last_class : goal.next_in-requires-clause-last_class
+next_in-requires-clause-last_class g c = c.self.invariant.is_run.options.last_class
 
-pub loop-class-preserved : goal.loop-class-preserved
-loop-class-preserved g c =
-    let r = c.args.self.now in
-    one_more (setting_by r.basis) r.state c.loop-class.class c.loop-class.invariant
-    (none_there (IsClassSpent (setting_by r.basis) r.state c.loop-class.class) c.in_ok-found.found (sym c.is_some.ensures ∙ c.if-is_some.false) c.in_ok-found.ensures.none)
+pub next_in-requires-clause-remembered : goal.next_in-requires-clause-remembered
+next_in-requires-clause-remembered g c =
+    let r = c.self.inside in same_true (setting r) r.refusals _ (state_of r.front) (record { points = refl; front = refl }) refl c.self.invariant.remembered
+
+pub invariant_of-self : goal.invariant_of-self
+invariant_of-self g c =
+    let r = c.self.inside in
+    record { is_run = c.self.invariant.is_run; remembered = same_true (setting r) c.next_in.new.refusals (state_of r.front) _ (record { points = refl; front = refl }) refl c.next_in.ensures.remembered }
+
+pub returns-clause-next : goal.returns-clause-next
+returns-clause-next g c =
+    let r = c.self.inside in
+    subst (λ (s : RunState). IfOk c.next_in.result (λ found. IfSome found (IsNext (setting_by s.basis) s.state))) c.self.view_is
+    (of_found _ _ c.next_in.result (λ (a : Application). same_next (setting r) (state_of r.front) _ a (record { points = refl; front = refl })) c.next_in.ensures.next)
 
 pub returns-clause-none : goal.returns-clause-none
 returns-clause-none g c =
-    let r = c.args.self.now in
-    let last = ap (λ (r : RunState). r.basis.options.last) c.self.view_is in
-    none_found (setting_by r.basis) r.state c.loop-class.class c.loop-class.invariant (omega arith)
+    let r = c.self.inside in
+    subst (λ (s : RunState). IfOk c.next_in.result (λ found. IfNone found (NothingApplies (setting_by s.basis) s.state))) c.self.view_is
+    (of_none _ _ c.next_in.result (same_nothing (setting r) (state_of r.front) _ (record { points = refl; front = refl })) c.next_in.ensures.none)

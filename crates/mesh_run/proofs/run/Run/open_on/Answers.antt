@@ -3,7 +3,7 @@ use Rattle.size_field.proofs.AllPieces.{all_pieces}
 use Rattle.front_chain.specs.Front.{numbered_from}
 use Rattle.mesh_run.specs.Opening.{domain_points, opening_lines}
 use Rattle.mesh_run.specs.RunState.{RunParts}
-use Rattle.mesh_run.proofs.OpenedRun.{AreSetUp, set_up, may_open, opened_is, opened_holds}
+use Rattle.mesh_run.proofs.OpenedRun.{AreSetUp, set_up, may_open, opened_is, opened_remembers}
 use Rattle.mesh_run.proofs.run.Run.open_on.Goals as goal
 
 pub opening_of-requires-clause-pieces : goal.opening_of-requires-clause-pieces
@@ -41,7 +41,7 @@ invariant_of-result c =
       sizes = c.in_ok-sizes.ensures;
       applications = c.new.ensures.items;
     } in
-    opened_holds c.args.ground.now.geometry.now parts (set_up c.args.ground.now.geometry.now parts c.segments-segments.result.now c.args.ground.now.pieces.now c.in_ok-opening.opening.points made) c.requires.options
+    opened_remembers c.args.ground.now.geometry.now parts c.no_refusals.result (set_up c.args.ground.now.geometry.now parts c.segments-segments.result.now c.args.ground.now.pieces.now c.in_ok-opening.opening.points made) c.requires.options c.no_refusals.ensures
 
 pub returns : goal.returns
 returns c =

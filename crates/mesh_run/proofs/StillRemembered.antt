@@ -1,0 +1,183 @@
+-- What a run remembers stays true over an application, where what lies near its elements is forgotten.
+use Rattle.std.proofs.Common.{◌≡◌, ℕ, ◌<◌, ◌≤◌, ◌≤ℤ◌, ◌⊎◌, inl, inr, List, [], ◌∷◌, ◌++◌, length, map, slice_index_or, sym, ap, ◌∙◌, subst, arith, Option, None, Some, IfSome, ℤ}
+use Rattle.std.specs.List.{AllByRecursion, Contains}
+use Rattle.std.proofs.lemmas.List.Elements.{recursion_from_All}
+use Rattle.grid_geom.specs.declared.Bounds.{Bounds}
+use Rattle.grid_geom.specs.declared.Point.{Point}
+use Rattle.grid_geom.specs.declared.Edge.{Edge}
+use Rattle.rule_maps.specs.Frame.{IsFrameOf}
+use Rattle.size_field.specs.Size.{SizeField, size_at}
+use Rattle.state_law.specs.Saved.{AreInBox}
+use Rattle.state_law.specs.State.{State, AreRising, IsListed, corners_of, glue_line, glued, next_after, next_after_all, number_sides, point_at}
+use Rattle.front_chain.specs.Front.{FrontState, IsFrontState, edges_of, state_of}
+use Rattle.admission.proofs.Order.{same_points}
+use Rattle.admission.specs.Admission.{glued_on}
+use Rattle.rule_match.specs.declared.application.Application.{Application}
+use Rattle.rule_match.specs.declared.out_of_reach.Distance.{Distance}
+use Rattle.rule_match.specs.Candidate.{Attempt, IsCandidate}
+use Rattle.rule_match.specs.Least.{HasNone, IsOf}
+use Rattle.rule_match.specs.Near.{IsCoveredBy, IsFarLine, IsReachAtMost}
+use Rattle.mesh_run.specs.declared.refusals.Refusals.{Refusals}
+use Rattle.mesh_run.specs.Reached.{IsReached, MayBeApplied}
+use Rattle.mesh_run.specs.Remembered.{ArePassed, AreTrue, DoesRemember, IsForgottenNear, IsInArea}
+use Rattle.mesh_run.specs.RunState.{RunParts, run_of, setting_by}
+use Rattle.mesh_run.specs.Steps.{RunSetting, IsNext, applied, with_points}
+use Rattle.mesh_run.proofs.GoesOn.{IsPushed, of_front, put_holds}
+use Rattle.mesh_run.proofs.HeldAreas.{Holds}
+use Rattle.mesh_run.proofs.Numbers.{point_kept}
+use Rattle.mesh_run.proofs.Searched.{same_true}
+use Rattle.mesh_run.proofs.StillNone.{Triple, IsOldOrNew, all_old, contained, elements_on, next_rises, still_none, stays_same}
+
+-- corners that are in an area are in its box
+module _ (area : Bounds) (pts : List Point) where
+  mapped : (Q : Point → Type 0) → ((p : Point) → IsInArea area p → Q p) → (ns : List ℕ) → AllByRecursion (λ n. IsInArea area (point_at pts n)) ns → AllByRecursion Q (corners_of pts ns)
+  mapped Q f [] h = tt
+  mapped Q f (n ∷ ns) h = (f (point_at pts n) h.0, mapped Q f ns h.1)
+
+  in_box : (ns : List ℕ) → Holds area pts ns → AreInBox area.lo area.hi (corners_of pts ns)
+  in_box ns h =
+      let each = recursion_from_All (λ n. IsInArea area (point_at pts n)) ns h in
+      record {
+        right_of_least = mapped (λ c. area.lo.x ≤ℤ c.x) (λ p i. i.right_of_least) ns each;
+        left_of_greatest = mapped (λ c. c.x ≤ℤ area.hi.x) (λ p i. i.left_of_greatest) ns each;
+        above_least = mapped (λ c. area.lo.y ≤ℤ c.y) (λ p i. i.above_least) ns each;
+        below_greatest = mapped (λ c. c.y ≤ℤ area.hi.y) (λ p i. i.below_greatest) ns each;
+      }
+
+  boxed : (els : List (List ℕ)) → AllByRecursion (Holds area pts) els → AllByRecursion (AreInBox area.lo area.hi) (map (corners_of pts) els)
+  boxed [] h = tt
+  boxed (ns ∷ els) h = (in_box ns h.0, boxed els h.1)
+
+-- ---- numbers rise
+next_rises_all : (front : List Triple) (next : ℕ) (ss : List (ℕ × ℕ)) → next ≤ next_after_all front next ss
+next_rises_all front next [] = omega arith
+next_rises_all front next (s ∷ ss) = let one = next_rises front next s in let more = next_rises_all (glue_line front next s) (next_after front next s) ss in omega (arith, one, more)
+
+next_on : (w : State) (els : List (List ℕ)) → w.next ≤ (glued_on w els).next
+next_on w [] = omega arith
+next_on w (ns ∷ els) = let one = next_rises_all w.front w.next (number_sides ns) in let more = next_on (glued w ns) els in omega (arith, one, more)
+
+-- a line reaches as far where its ends have the same places
+moved_reach : (sizes : SizeField) (points later : List Point) (n : ℕ) (steps : ℤ) (from to : ℕ) → point_at later from ≡ point_at points from → point_at later to ≡ point_at points to → IsReachAtMost sizes points n steps from to → IsReachAtMost sizes later n steps from to
+moved_reach sizes points later n steps from to e g h = record {
+  frame = h.frame;
+  is_frame = h.is_frame;
+  framed = subst (λ (p : Point). IsFrameOf p (point_at later to) (size_at sizes h.frame.middle) h.frame) (sym e)
+      (subst (λ (p : Point). IsFrameOf (point_at points from) p (size_at sizes h.frame.middle) h.frame) (sym g) h.framed);
+  positive = h.positive;
+  within = h.within;
+}
+
+some : (class m : ℕ) → class < m → 0 < m
+some class m l = omega arith
+
+clash : (line next : ℕ) → line < next → next ≤ line → ⊥
+clash line next l k = omega arith
+
+-- ---- what is remembered stays true
+module _ (s : RunSetting) (b : List Edge) (st : State) (a : Application) (before after : Refusals) (r : IsReached b st) (m : MayBeApplied st a) (rising : AreRising st.front st.next)
+    (h : AreTrue before s st) (f : IsForgottenNear s.sizes st a before after) where
+  -- each later line was there, or has a new number
+  old_or_new : (line : Triple) → Contains (applied st a).front line → Contains st.front line ⊎ (st.next ≤ line.0)
+  old_or_new line c = contained (IsOldOrNew st.front st.next) (applied st a).front line (elements_on st.front st.next (with_points st a.made) a.elements (level st.next) (all_old st.front st.next st.front (λ l k. k))) c
+    where
+      level : (n : ℕ) → n ≤ n
+      level n = omega arith
+
+  was_given : (line : ℕ) → 0 < slice_index_or after.least.items line 0 → line < st.next
+  was_given line p = h.reaching.given line (subst (λ (v : ℕ). 0 < v) (f.kept.same line p) p)
+
+  -- an old line whose reach is apart from the elements has no candidate where it had none
+  far_none : (line class : ℕ) → 1 ≤ class → IsFarLine s.sizes st before.reach f.area.lo f.area.hi line → HasNone s.sizes st s.rules line class → HasNone s.sizes (applied st a) s.rules line class
+  far_none line class first far none =
+      subst (λ (n : ℕ). HasNone s.sizes (applied st a) s.rules n class) far.numbered
+      (still_none s.sizes s.rules before.reach class b st a far.line far.frame first h.covers r m
+      (record { on_front = far.on_front; same = λ other c e. stays_same st a far.line other rising far.on_front c e; frame = far.is_frame; framed = far.framed })
+      (record {
+        least = f.area.lo;
+        greatest = f.area.hi;
+        box = far.box;
+        apart = far.apart;
+        elements = boxed f.area (st.points ++ a.made) a.elements (recursion_from_All (Holds f.area (st.points ++ a.made)) a.elements f.holds);
+      })
+      (subst (λ (n : ℕ). HasNone s.sizes st s.rules n class) (sym far.numbered) none))
+
+  none_after : (line class : ℕ) → 1 ≤ class → class < slice_index_or after.least.items line 0 → HasNone s.sizes (applied st a) s.rules line class
+  none_after line class first l = record { none = λ t o c. by t o (old_or_new t.line o.on_front) c }
+    where
+      p : 0 < slice_index_or after.least.items line 0
+      p = some class (slice_index_or after.least.items line 0) l
+
+      by : (t : Attempt) → IsOf s.sizes (applied st a) s.rules line class t → Contains st.front t.line ⊎ (st.next ≤ t.line.0) → IsCandidate (applied st a) t → ⊥
+      by t o (inl k) c =
+          let far = subst (IsFarLine s.sizes st before.reach f.area.lo f.area.hi) o.same_line (f.kept.far t.line k (subst (λ (n : ℕ). 0 < slice_index_or after.least.items n 0) (sym o.same_line) p)) in
+          let had = h.remembered.none line class first (subst (λ (v : ℕ). class < v) (f.kept.same line p) l) in
+          (far_none line class first far had).none t o c
+      by t o (inr k) c = clash line st.next (was_given line p) (subst (λ (n : ℕ). st.next ≤ n) o.same_line k)
+
+  -- its reach goes no further than before
+  abbrev Within : State → ℕ → Distance → Type 0
+  Within w n far = (line : Triple) → Contains w.front line → 0 < slice_index_or after.least.items line.0 0 → IsReachAtMost s.sizes w.points n far.steps line.1 line.2
+
+  within_after : (far : Distance) → ((line : Triple) → Contains st.front line → 0 < slice_index_or before.least.items line.0 0 → IsReachAtMost s.sizes st.points before.reach far.steps line.1 line.2) → Within (applied st a) before.reach far
+  within_after far w line c p = by (old_or_new line c)
+    where
+      points : (applied st a).points ≡ st.points ++ a.made
+      points = same_points (with_points st a.made) a.elements
+
+      place : (n : ℕ) → IsListed (length st.points) n → point_at (applied st a).points n ≡ point_at st.points n
+      place n l = ap (λ (ps : List Point). point_at ps n) points ∙ point_kept st.points a.made n l
+
+      by : Contains st.front line ⊎ (st.next ≤ line.0) → IsReachAtMost s.sizes (applied st a).points before.reach far.steps line.1 line.2
+      by (inl k) =
+          let listed = contained (λ other. IsListed (length st.points) other.1 × IsListed (length st.points) other.2) st.front line r.numbered.lines_listed k in
+          moved_reach s.sizes st.points (applied st a).points before.reach far.steps line.1 line.2 (place line.1 listed.0) (place line.2 listed.1)
+          (w line k (subst (λ (v : ℕ). 0 < v) (f.kept.same line.0 p) p))
+      by (inr k) = absurd (clash line.0 st.next (was_given line.0 p) k)
+
+  all_within : (o : Option Distance) → IfSome o (λ far. (line : Triple) → Contains st.front line → 0 < slice_index_or before.least.items line.0 0 → IsReachAtMost s.sizes st.points before.reach far.steps line.1 line.2)
+      → IfSome o (Within (applied st a) before.reach)
+  all_within None w = tt
+  all_within (Some far) w = within_after far w
+
+  -- the lines below the numbers are old ones, of which nothing was forgotten
+  passed_after : (class : ℕ) → ArePassed (applied st a).front after.least.items class (slice_index_or after.first.items class 0)
+  passed_after class line c l = by (old_or_new line c)
+    where
+      less : (n m k : ℕ) → n < m → m ≤ k → n < k
+      less n m k a b = omega arith
+
+      low : line.0 < f.lowest
+      low = less line.0 (slice_index_or after.first.items class 0) f.lowest l (f.lowered.within class)
+
+      by : Contains st.front line ⊎ (st.next ≤ line.0) → class < slice_index_or after.least.items line.0 0
+      by (inl k) = subst (λ (v : ℕ). class < v) (sym (f.below line.0 low)) (h.passed class line k (less line.0 (slice_index_or after.first.items class 0) (slice_index_or before.first.items class 0) l (f.lowered.no_more class)))
+      by (inr k) = absurd (clash line.0 st.next (less line.0 f.lowest st.next low f.old) k)
+
+  pub still_true : AreTrue after s (applied st a)
+  still_true = record {
+    remembered = record { none = none_after };
+    covers = subst (λ (n : ℕ). AllByRecursion (IsCoveredBy n) s.rules) (sym f.reach) h.covers;
+    reaching = record {
+      given = λ line p. below line st.next (applied st a).next (was_given line p) (next_on (with_points st a.made) a.elements);
+      within = subst (λ (n : ℕ). IfSome after.widest (Within (applied st a) n)) (sym f.reach)
+          (subst (λ (o : Option Distance). IfSome o (Within (applied st a) before.reach)) (sym f.widest) (all_within before.widest h.reaching.within));
+    };
+    passed = passed_after;
+  }
+    where
+      below : (line next more : ℕ) → line < next → next ≤ more → line < more
+      below line next more l k = omega arith
+
+pub remembers_after : (p : RunParts) (a : Application) (same after : FrontState) (applications : List Application) (before left : Refusals) → DoesRemember (run_of p) before
+    → IsNext (setting_by (run_of p).basis) (run_of p).state a → IsFrontState same → MayBeApplied (state_of same) a → IsPushed p a same after applications
+    → IsForgottenNear p.sizes (state_of same) a before left → DoesRemember (run_of (record p { front = after; applications = applications })) left
+remembers_after p a same after applications before left h next front may pushed f =
+    let s = setting_by (run_of p).basis in
+    let here = same_true s before (run_of p).state (state_of same) (record { points = sym pushed.equal.points; front = sym pushed.equal.lines }) pushed.equal.next h.remembered in
+    let later = still_true s (edges_of same) (state_of same) a before left (of_front same front) may front.rising here f in
+    record {
+      is_run = put_holds p a same after applications h.is_run next may pushed;
+      remembered = same_true s left (applied (state_of same) a) (run_of (record p { front = after; applications = applications })).state
+          (record { points = same_points (with_points (state_of same) a.made) a.elements ∙ sym pushed.put.points; front = sym pushed.put.lines }) pushed.put.next later;
+    }

@@ -1,0 +1,5 @@
+use Rattle.sample.proofs.Tables.{one_more}
+use Rattle.sample.proofs.squares.points.Goals as goal
+
+pub loop-k-preserved : goal.loop-k-preserved
+loop-k-preserved c = one_more _ c.loop-k.k c.loop-k.rows.items c.push.new.self.items c.point.result c.loop-k.invariant c.in_ok-push.ensures.items c.point.ensures
