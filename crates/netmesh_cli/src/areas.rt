@@ -7,13 +7,13 @@ ghost use Rattle.geom_check.specs.Boundary.{boundary, edge_of, IsSegmentOf};
 ghost use Rattle.netmesh_cli.specs.Shown.{double_area as double_area_of};
 
 use geom_check::{Geometry, Segment};
-use grid_geom::{Point, orient};
+use grid_geom::{GRID, Point, orient};
 
 /// The origin of the grid.
 const ORIGIN: Point = Point { x: 0, y: 0 };
 
-/// The greatest doubled area of a triangle of the origin and a segment: 2^41.
-pub const SWEPT: i128 = 2_199_023_255_552;
+/// The greatest doubled area of a triangle of the origin and a segment: twice the square of the grid's half width.
+pub const SWEPT: i128 = 2 * GRID as i128 * GRID as i128;
 
 /// Twice the signed area of the triangle of the origin and a segment, in square grid units.
 fn swept(points: &[Point], segment: &Segment) -> i128
