@@ -9,9 +9,9 @@ mod applied;
 mod end_word;
 pub mod laws;
 mod lists;
+mod log;
 #[cfg(test)]
 mod log_tests;
-mod log;
 mod reader;
 mod reading;
 mod refusal;

@@ -7,7 +7,9 @@ use std::test::Fail;
 
 #[test]
 fn the_text_of_the_twelve_rules(rt: HostRuntime) -> Result<(), Fail> {
-    let read = read_rules(rt.alloc(), TWELVE).ok().ok_or("the text is admitted")?;
+    let read = read_rules(rt.alloc(), TWELVE)
+        .ok()
+        .ok_or("the text is admitted")?;
     let held = twelve_rules(rt.alloc())?;
     let text = print_rules(rt.alloc(), &read)?;
     let same = print_rules(rt.alloc(), &held)?;
@@ -17,7 +19,9 @@ fn the_text_of_the_twelve_rules(rt: HostRuntime) -> Result<(), Fail> {
 
 #[test]
 fn two_squares_each_way(rt: HostRuntime) -> Result<(), Fail> {
-    let squares = geometry(rt.alloc(), 2).ok().ok_or("the squares are accepted")?;
+    let squares = geometry(rt.alloc(), 2)
+        .ok()
+        .ok_or("the squares are accepted")?;
     assert_eq!(rt; squares.shift(), 3);
     assert_eq!(rt; squares.points().len(), 9);
     assert_eq!(rt; squares.segments().len(), 12);

@@ -21,7 +21,6 @@ use std::alloc::Global;
 use std::thread::Threads;
 
 pub mod laws;
-
 #[cfg(test)]
 mod tests;
 
