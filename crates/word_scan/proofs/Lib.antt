@@ -22,6 +22,8 @@ pub mod TokenReading
 pub mod Runs
 -- a decimal is what its parts spell
 pub mod DecimalLaws
+-- the words of a text in which each word has one white byte beside it
+pub mod Spelled
 -- ---- lists
 
 -- two places in one list
