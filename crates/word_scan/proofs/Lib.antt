@@ -8,6 +8,8 @@ pub mod Walk
 pub mod Laws
 -- bytes that are neither white nor begin a comment make a word
 pub mod PlainWords
+-- the words of a text in which each word has one white byte beside it
+pub mod Spelled
 -- where a run of bytes stops
 pub mod Prefixes
 -- ---- tokens
