@@ -6,7 +6,7 @@ use Rattle.folder_io.specs.Causes.{Told}
 use Rattle.folder_io.specs.Names.{Files, Holds, IsLonger, IsMissing}
 use Rattle.folder_io.specs.States.{FolderState}
 use Rattle.folder_io.proofs.Counts.{rose_from_earlier}
-use Rattle.netmesh_cli.specs.declared.words_fault.WordsFault.{WordsFault}
+use Rattle.call_words.specs.declared.words_fault.WordsFault.{WordsFault}
 use Rattle.netmesh_cli.specs.declared.outcome.Refusal.{Refusal}
 use Rattle.netmesh_cli.specs.declared.outcome.Refusal.TheVariants.{Words, In2d, Geometry, Rules, Vol, Log, Folder, Out, Memory, NotYet}
 use Rattle.netmesh_cli.specs.Causes.{HoldsWithin, FolderFault, call_failed, too_long, missing, FetchRefused, HasFailed}

@@ -22,16 +22,12 @@ ghost use Rattle.netmesh_cli.specs.Status.{status_of};
 mod areas;
 mod asked;
 mod check;
-mod command;
 pub mod file_laws;
 mod files;
-mod form;
-mod forms;
 mod generated;
 mod geom;
 mod geometry;
 pub mod geometry_laws;
-pub mod laws;
 mod lines;
 mod log_file;
 mod made;
@@ -44,14 +40,11 @@ mod rules;
 mod run;
 mod said;
 mod serve;
-mod settings;
 mod texts;
 mod top;
-mod values;
 mod view;
-mod words_fault;
 
-pub use command::{Command, MeshOptions, Verb, read_words};
+pub use call_words::{Command, MeshOptions, Verb, WordsFault, read_words};
 use fault_text::Refused;
 use folder_io::{FolderDisk, SinkStd};
 pub use mesh_run::{Gate, NoGate};
@@ -61,10 +54,7 @@ use std::env;
 use std::io::{self, ErrorKind};
 use std::process::ExitCode;
 pub use top::netmesh;
-pub use words_fault::WordsFault;
 
-#[cfg(test)]
-mod command_tests;
 #[cfg(test)]
 mod tests;
 

@@ -1,6 +1,7 @@
 //! What is said to a person, on standard error, of a call that was refused. No contract speaks of it.
 
-use super::{Command, FILE_LIMIT, RUN_FILE_LIMIT, Refusal, WordsFault, read_words};
+use super::{FILE_LIMIT, RUN_FILE_LIMIT, Refusal};
+use call_words::{Command, WordsFault, read_words};
 use fault_text::{File, Refused, sentence};
 use folder_io::Folder;
 use geom_check::GeomRefusal;
