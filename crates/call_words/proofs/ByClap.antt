@@ -4,7 +4,6 @@ use Rattle.std.specs.Prelude.{nat_lt, slice_get, drop, take, encode_utf8, option
 use Rattle.std.specs.Option.{option_map_or}
 use Rattle.std.specs.Str.{bytes_eq, chars}
 use Rattle.std.specs.List.{fold, position_or_len}
-use Rattle.std.specs.Cmp.Lexicographic.{bytes_decides}
 use Rattle.std.proofs.lemmas.List.{append_assoc}
 use Rattle.std.proofs.lemmas.Bool.{cases_eq}
 use Rattle.clap.specs.Lexer.{long_of, short_of, usize_max, name_and_value, has_byte, strip_byte, long_of_rest, short_of_rest}
@@ -19,12 +18,13 @@ use Rattle.clap.specs.declared.builder.value_parser.Reading.TheVariants.{AsWritt
 use Rattle.clap.specs.declared.parser.matches.ValueSource.TheVariants.{CommandLine}
 use Rattle.call_words.specs.declared.settings.Setting.{Setting}
 use Rattle.call_words.specs.declared.settings.Setting.TheVariants.{Maxh, Grading, Class, Steps}
-use Rattle.call_words.specs.CommandLine.{Reads, AtEnd, PlacesAlone, APlace, TwoWords, OneWord, setting_word, Given, word_given, with_word, nothing_given}
+use Rattle.call_words.specs.CommandLine.{setting_word, Given, word_given, with_word, nothing_given}
 use Rattle.call_words.specs.WordsRead.{longer, halves, halves_from, halves_sort, after_dash, after_dashes, WordSort, PlainWord, Dashes, Before, With, Other, word_sort, is_plain_sort, set_called, with_place, read_word, read_value, reading}
 use Rattle.call_words.specs.Asks.{place_word}
 use Rattle.call_words.proofs.Uses.{Uses, row, value_for, has_is, given_is, none_without, none_added, same_text, value_added, value_kept}
 use Rattle.call_words.proofs.Tables.{slot, place, flag, leaf, Table, place_no_place, place_no_setting, setting_no_place}
-use Rattle.call_words.proofs.WordsRead.{mapped, chained, some_of, none_some, sets_first, set_free, reads_from}
+use Rattle.call_words.proofs.Options.{IsOther, same_or_other, word_set, set_some, set_twice, set_none, waiting_never, IsNone, which_option, lt_or_le}
+use Rattle.call_words.proofs.WordsRead.{mapped, some_of, none_some, set_free}
 
 -- ---- one use of an argument with one value
 
@@ -80,33 +80,6 @@ place_agrees {us} {ps} {given} p a = record { places = λ k. go k (cases_eq k (l
     go : (k : ℕ) → (k ≡ length ps) ⊎ (k ≡ length ps → ⊥) → value_for (place_word (suc k)) (us ++ (place_word (suc (length ps)), p) ∷ []) ≡ slice_get (ps ++ p ∷ []) k
     go k (inl e) = ap (λ j. value_for (place_word (suc j)) (us ++ (place_word (suc (length ps)), p) ∷ [])) e ∙ value_added (place_word (suc (length ps))) p us (new_place a) ∙ sym (ap (slice_get (ps ++ p ∷ [])) e ∙ last_got ps p)
     go k (inr ne) = value_kept (place_word (suc (length ps))) (place_word (suc k)) p us (place_no_place (suc (length ps)) (suc k) (λ e. ne (omega arith))) ∙ a.places k ∙ sym (other_got ps p k ne)
-
-abbrev IsOther : Setting → Setting → Type 0
-IsOther x y = (bytes_eq (setting_word x) (setting_word y) ≡ false) × ((v : Text) (given : Given) → word_given y (with_word x v given) ≡ word_given y given)
-
-same_or_other : (x y : Setting) → (y ≡ x) ⊎ IsOther x y
-same_or_other Maxh Maxh = inl refl
-same_or_other Maxh Grading = inr (refl, λ v given. refl)
-same_or_other Maxh Class = inr (refl, λ v given. refl)
-same_or_other Maxh Steps = inr (refl, λ v given. refl)
-same_or_other Grading Maxh = inr (refl, λ v given. refl)
-same_or_other Grading Grading = inl refl
-same_or_other Grading Class = inr (refl, λ v given. refl)
-same_or_other Grading Steps = inr (refl, λ v given. refl)
-same_or_other Class Maxh = inr (refl, λ v given. refl)
-same_or_other Class Grading = inr (refl, λ v given. refl)
-same_or_other Class Class = inl refl
-same_or_other Class Steps = inr (refl, λ v given. refl)
-same_or_other Steps Maxh = inr (refl, λ v given. refl)
-same_or_other Steps Grading = inr (refl, λ v given. refl)
-same_or_other Steps Class = inr (refl, λ v given. refl)
-same_or_other Steps Steps = inl refl
-
-word_set : (x : Setting) (v : Text) (given : Given) → word_given x (with_word x v given) ≡ Some v
-word_set Maxh v given = refl
-word_set Grading v given = refl
-word_set Class v given = refl
-word_set Steps v given = refl
 
 option_agrees : {us : Uses} {ps : List Text} {given : Given} (x : Setting) (v : Text) → word_given x given ≡ None → Agree us ps given → Agree (us ++ (setting_word x, v) ∷ []) ps (with_word x v given)
 option_agrees {us} {ps} {given} x v free a = record { places = λ k. value_kept (setting_word x) (place_word (suc k)) v us (setting_no_place x (suc k)) ∙ a.places k; options = λ y. go y (same_or_other x y) }
@@ -246,93 +219,6 @@ placed n opts ps p fault found rows (inr v) = inr (record {
       let all_is : m.0.1 ≡ all = ap (λ (f : List Text × Given). f.1) m.2 in
       v.never m.0.0 m.0.1 m.1 (ap length (joined ps p m.0.0) ∙ ap (λ (xs : List Text). length (ps ++ xs)) ps_are ∙ count) (λ o. all_is ∙ bare o);
 })
-
--- ---- what an option that is set leaves
-
-no_word : (x : Setting) → word_given x nothing_given ≡ None
-no_word Maxh = refl
-no_word Grading = refl
-no_word Class = refl
-no_word Steps = refl
-
-not_free : (x : Setting) (v w : Text) (given : Given) (y : Setting) → word_given x given ≡ Some v → word_given y given ≡ None → word_given x (with_word y w given) ≡ Some v
-not_free x v w given y e free = go (same_or_other y x)
-  where
-    go : (x ≡ y) ⊎ IsOther y x → word_given x (with_word y w given) ≡ Some v
-    go (inl same) = let two : word_given x given ≡ None = subst (λ z. word_given z given ≡ None) (sym same) free in absurd cc
-    go (inr o) = o.1 w given ∙ e
-
-keeps : {given : Given} {words places : List Text} {all : Given} → Reads given words places all → (x : Setting) (v : Text) → word_given x given ≡ Some v → word_given x all ≡ Some v
-keeps (AtEnd given) x v e = e
-keeps (PlacesAlone given places) x v e = e
-keeps (APlace given word words places all is r) x v e = keeps r x v e
-keeps (TwoWords given setting w words places all free is r) x v e = keeps r x v (not_free x v w given setting e free)
-keeps (OneWord given setting w words places all free r) x v e = keeps r x v (not_free x v w given setting e free)
-
--- where an option is set, not nothing is given
-set_some : (name v : Text) (given : Given) (words places : List Text) (all : Given) → option_and_then (λ now. reading None now words) (set_called name v given) ≡ Some (places, all) → all ≡ nothing_given → ⊥
-set_some name v given words places all e nothing =
-    let m = chained (λ now. reading None now words) (set_called name v given) (places, all) e in
-    let f = sets_first name v given m.0 m.1 in
-    let now : word_given f.setting m.0 ≡ Some v = ap (word_given f.setting) f.after ∙ word_set f.setting v given in
-    let then : word_given f.setting all ≡ Some v = keeps (reads_from words None m.0 places all m.2) f.setting v now in
-    let no : word_given f.setting all ≡ None = ap (word_given f.setting) nothing ∙ no_word f.setting in
-    absurd cc
-
-set_twice : (x : Setting) (v w : Text) (given : Given) → word_given x given ≡ Some w → set_called (setting_word x) v given ≡ None
-set_twice Maxh v w given e = rw e refl
-set_twice Grading v w given e = rw e refl
-set_twice Class v w given e = rw e refl
-set_twice Steps v w given e = rw e refl
-
--- a name that isn't an option's sets none
-set_none : (name v : Text) (given : Given) (words places : List Text) (all : Given) → ((x : Setting) → name ≢ setting_word x) → option_and_then (λ now. reading None now words) (set_called name v given) ≡ Some (places, all) → ⊥
-set_none name v given words places all un e =
-    let m = chained (λ now. reading None now words) (set_called name v given) (places, all) e in
-    let f = sets_first name v given m.0 m.1 in
-    un f.setting f.called
-
--- what holds of an option with a value holds of one that waits for it
-waiting_never : (name : Text) (given : Given) (words places : List Text) (all : Given) → ((v : Text) (later : List Text) → option_and_then (λ now. reading None now later) (set_called name v given) ≡ Some (places, all) → ⊥) → reading (Some name) given words ≡ Some (places, all) → ⊥
-unfolding reading
-waiting_never name given [] places all h e = none_some (places, all) e
-waiting_never name given (word ∷ words) places all h e = go (is_plain_sort (word_sort word)) e
-  where
-    go : (b : Bool) → read_value b name given word (λ now. reading None now words) ≡ Some (places, all) → ⊥
-    go true e = h word words e
-    go false e = none_some (places, all) e
-
--- the option that a name is, where it is one
-abbrev IsNone : Text → Type 0
-IsNone name = (x : Setting) → name ≢ setting_word x
-
-which_option : (name : Text) → ((x : Setting) × (name ≡ setting_word x)) ⊎ IsNone name
-which_option name = go _ _ _ _ refl refl refl refl
-  where
-    no : (x : Setting) → bytes_eq name (setting_word x) ≡ false → name ≢ setting_word x
-    no x e is = let yes : bytes_eq name (setting_word x) ≡ true = (bytes_decides name (setting_word x)).1 is in absurd cc
-
-    none : bytes_eq name (setting_word Maxh) ≡ false → bytes_eq name (setting_word Grading) ≡ false → bytes_eq name (setting_word Class) ≡ false → bytes_eq name (setting_word Steps) ≡ false → IsNone name
-    none m g c s Maxh = no Maxh m
-    none m g c s Grading = no Grading g
-    none m g c s Class = no Class c
-    none m g c s Steps = no Steps s
-
-    go : (m g c s : Bool) → bytes_eq name (setting_word Maxh) ≡ m → bytes_eq name (setting_word Grading) ≡ g → bytes_eq name (setting_word Class) ≡ c → bytes_eq name (setting_word Steps) ≡ s → ((x : Setting) × (name ≡ setting_word x)) ⊎ IsNone name
-    go true g c s em eg ec es = inl (Maxh, (bytes_decides name (setting_word Maxh)).0 em)
-    go false true c s em eg ec es = inl (Grading, (bytes_decides name (setting_word Grading)).0 eg)
-    go false false true s em eg ec es = inl (Class, (bytes_decides name (setting_word Class)).0 ec)
-    go false false false true em eg ec es = inl (Steps, (bytes_decides name (setting_word Steps)).0 es)
-    go false false false false em eg ec es = inr (none em eg ec es)
-
-lt_or_le : (k n : ℕ) → (k < n) ⊎ (n ≤ k)
-lt_or_le k zero = inr (omega arith)
-lt_or_le zero (suc n) = inl (omega arith)
-lt_or_le (suc k) (suc n) = go (lt_or_le k n)
-  where
-    go : (k < n) ⊎ (n ≤ k) → (suc k < suc n) ⊎ (suc n ≤ suc k)
-    go (inl lt) = inl (omega arith)
-    go (inr le) = inr (omega arith)
 
 -- ---- the walk of `clap`
 

@@ -36,7 +36,7 @@ from_word verbs.Gen = refl
 one_verb : (v w : Verb) → verb_word v ≡ verb_word w → v ≡ w
 one_verb v w e = some_of v w (sym (from_word v) ∙ ap verb_from e ∙ from_word w)
 
-same_start : (v w : Verb) (rest more : Words) → verb_word v ∷ rest ≡ verb_word w ∷ more → (v ≡ w) × (rest ≡ more)
+pub same_start : (v w : Verb) (rest more : Words) → verb_word v ∷ rest ≡ verb_word w ∷ more → (v ≡ w) × (rest ≡ more)
 same_start v w rest more e =
     let h : verb_word v ≡ verb_word w = cc in
     let t : rest ≡ more = cc in

@@ -13,3 +13,7 @@ pub mod Tables
 pub mod ByClap
 pub mod FormReads
 pub mod FormPlaces
+-- words are read on word by word
+pub mod Halves
+pub mod Options
+pub mod Misfits

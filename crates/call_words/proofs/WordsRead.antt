@@ -123,7 +123,7 @@ called_step : (name : List ℕ) (first setting : Setting) (t : Bool) (next : Opt
 called_step name first setting true next t e more = (bytes_decides name (setting_word first)).0 t ∙ ap setting_word (some_of first setting e)
 called_step name first setting false next t e more = more e
 
-called : (name : List ℕ) (setting : Setting) → setting_of name ≡ Some setting → name ≡ setting_word setting
+pub called : (name : List ℕ) (setting : Setting) → setting_of name ≡ Some setting → name ≡ setting_word setting
 called name setting e =
     called_step name Maxh setting _ _ refl e (λ e.
     called_step name Grading setting _ _ refl e (λ e.

@@ -5,3 +5,6 @@ pub mod Commands
 pub mod WordsRead
 pub mod Asks
 pub mod Forms
+-- the first word that can't stand where it stands
+pub mod Begun
+pub mod Walks

@@ -82,7 +82,7 @@ pub enum Command<'a> {
 }
 
 /// The verb that the word is.
-fn verb_called(word: &str) -> Option<Verb>
+pub(crate) fn verb_called(word: &str) -> Option<Verb>
     ensures found { IfSome result (λ verb. word.now ≡ verb_word verb) }
     ensures none { IfNone result ((verb : Verb) → word.now ≢ verb_word verb) }
 {

@@ -1,6 +1,6 @@
 //! The words of calls, as values. The lines of `examples/words` show what is refused.
-use crate::WordsFault;
 use crate::command::{Command, MeshOptions, read_words};
+use crate::{WordsFault, first_misfit};
 use std::alloc::{AllocError, Global};
 use std::test::Fail;
 use word_scan::Dec;
@@ -46,5 +46,13 @@ fn names_and_options_of_a_mesh(rt: HostRuntime) -> Result<(), Fail> {
         steps: None,
     };
     assert!(rt; call.options == options);
+    Ok(())
+}
+
+#[test]
+fn the_first_word_that_can_not_stand_is_numbered(rt: HostRuntime) -> Result<(), Fail> {
+    let twice = words_of(rt.alloc(), "mesh g r --class 1 m --class=1 l")?;
+    let short = words_of(rt.alloc(), "mesh g --maxh")?;
+    assert_eq!(rt; (first_misfit(&twice), first_misfit(&short)), (7, 4));
     Ok(())
 }

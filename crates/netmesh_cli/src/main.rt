@@ -34,6 +34,7 @@ mod made;
 mod mesh;
 mod mesh_file;
 mod outcome;
+mod progress;
 mod rule_file;
 pub mod rule_laws;
 mod rules;
@@ -49,6 +50,7 @@ use fault_text::Refused;
 use folder_io::{FolderDisk, SinkStd};
 pub use mesh_run::{Gate, NoGate};
 pub use outcome::{Outcome, Refusal};
+use progress::Progress;
 use std::alloc::Global;
 use std::env;
 use std::io::{self, ErrorKind};
@@ -123,7 +125,8 @@ fn main(rt: HostRuntime) -> ExitCode {
     };
     let mut folder = FolderDisk::new(for_folder, alloc);
     let mut out = SinkStd::new(for_sink);
-    let outcome = netmesh(&rt, alloc, &words, &mut folder, &mut out, &NoGate);
+    let gate = Progress::new(&rt);
+    let outcome = netmesh(&rt, alloc, &words, &mut folder, &mut out, &gate);
     if let Outcome::Refused(refusal) = &outcome {
         said::say(&rt, &mut folder, &words, refusal);
     }
