@@ -4,6 +4,7 @@
 -- moved          the cursor one byte on
 -- cursor_behind  the cursor behind bytes that begin a text
 -- IsSpot         the word with this number has these bytes, and stands in this line and column
+-- IsMisfit       the first word of a call that can't stand where it stands
 use Rattle.std.specs.Prelude.{◌≡◌, ℕ, ◌+◌, ◌-◌, ◌≤◌, ◌==◌, if◌then◌else◌, List, take, Some, slice_get}
 use Rattle.std.specs.List.{fold}
 use Rattle.word_scan.specs.declared.scanner.Word.{Word}
@@ -12,6 +13,8 @@ use Rattle.word_scan.specs.Scan.{scan_from}
 use Rattle.word_scan.specs.Bytes.{bytes_of}
 use Rattle.fault_text.specs.declared.spot.Cursor.{Cursor}
 use Rattle.fault_text.specs.declared.spot.Spot.{Spot}
+use Rattle.fault_text.specs.declared.words.CallWord.{CallWord}
+use Rattle.call_words.specs.Begun.{IsFirstMisfit}
 
 -- the words of a text in a style, from left to right
 abbrev pub words : Style → List ℕ → List Word
@@ -33,3 +36,8 @@ pub record IsSpot (style : Style) (text : List ℕ) (number : ℕ) (spot : Spot)
   pub numbered : slice_get (words style text) (number - 1) ≡ Some word
   pub bytes : spot.word.now ≡ bytes_of text word
   pub place : spot.at ≡ cursor_behind (take word.from text)
+
+-- the number is that of the first word of a call that can't stand where it stands, and this is the word
+pub record IsMisfit (words : List (List ℕ)) (found : CallWord) : Type 0 where
+  pub first : IsFirstMisfit words found.number
+  pub bytes : slice_get words (found.number - 1) ≡ Some found.word.now

@@ -1,9 +1,10 @@
 //! What does a refusal say to a person, and where in the file does it point?
 //!
 //! 1. The word that is shown is the one with the refusal's number, in its line and column (`spot_of`).
-//! 2. A sentence is made after the answer, and of what is at hand: where the file's bytes are not, it has
+//! 2. The word of a call that is shown is the first that can't stand where it stands (`misfit_of`).
+//! 3. A sentence is made after the answer, and of what is at hand: where the file's bytes are not, it has
 //!    no place and no word.
-//! 3. How a sentence is worded is tested and not proved. A call fails only where memory is refused.
+//! 4. How a sentence is worded is tested and not proved. A call fails only where memory is refused.
 #![tactic(auto)]
 
 mod geometry;
@@ -17,8 +18,9 @@ mod spot;
 mod words;
 mod writing;
 
-pub use sentences::{File, Refused, sentence};
+pub use sentences::{File, Reason, Refused, sentence};
 pub use spot::{Cursor, Spot, spot_of};
+pub use words::{CallWord, misfit_of};
 
 #[cfg(test)]
 mod tests;

@@ -11,6 +11,19 @@ pub struct File<'a> {
     pub text: &'a [u8],
 }
 
+/// Why the system refuses a file, where that is at hand.
+#[derive(Clone, Copy, Debug, PartialEq, Eq)]
+pub enum Reason {
+    /// The name is that of a folder.
+    IsFolder,
+    /// The system denies the access.
+    Denied,
+    /// The folder that the file is in is not there.
+    NoFolder,
+    /// It is not at hand.
+    Unknown,
+}
+
 /// A refusal as plain values: the numbers are those of its line, from the first on.
 #[derive(Clone, Copy, Debug)]
 pub enum Refused<'a> {
@@ -51,11 +64,10 @@ pub enum Refused<'a> {
         name: &'a str,
         fault: u32,
         limit: u64,
+        reason: Reason,
     },
     /// `refused notyet ..`.
-    NotYet {
-        part: u32,
-    },
+    NotYet,
     /// The answer was not taken.
     Out,
     /// There was no memory left.
@@ -77,8 +89,18 @@ pub fn sentence(alloc: Global, refused: &Refused<'_>) -> Result<String, AllocErr
         Refused::Rules { file, numbers } => rules::write(&mut text, file, numbers)?,
         Refused::Mesh { file, numbers } => runs::write_mesh(&mut text, file, numbers)?,
         Refused::Log { file, numbers } => runs::write_log(&mut text, file, numbers)?,
-        Refused::Folder { name, fault, limit } => write_folder(&mut text, name, *fault, *limit)?,
-        Refused::NotYet { part } => write_not_yet(&mut text, *part)?,
+        Refused::Folder {
+            name,
+            fault,
+            limit,
+            reason,
+        } => {
+            write_folder(&mut text, name, *fault, *limit)?;
+            if *fault == 1 {
+                text.push_str(reason_text(*reason))?;
+            }
+        }
+        Refused::NotYet => text.push_str("netmesh: refused: this verb is not built yet")?,
         Refused::Out => text.push_str("netmesh: refused: standard output did not take the answer")?,
         Refused::Memory => text.push_str("netmesh: refused: there is no memory left")?,
     }
@@ -96,10 +118,12 @@ fn write_folder(text: &mut String, name: &str, fault: u32, limit: u64) -> Result
     }
 }
 
-/// Writes what is not built.
-fn write_not_yet(text: &mut String, part: u32) -> Result<(), AllocError> {
-    text.push_str(match part {
-        3 => "netmesh: refused: a rule file that holds a rule is not applied yet",
-        _ => "netmesh: refused: this verb, or this option, is not built yet",
-    })
+/// What is added where the system's reason is at hand.
+fn reason_text(reason: Reason) -> &'static str {
+    match reason {
+        Reason::IsFolder => ": it is a folder",
+        Reason::Denied => ": the system denies it",
+        Reason::NoFolder => ": its folder is not there",
+        Reason::Unknown => "",
+    }
 }

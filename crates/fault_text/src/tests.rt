@@ -1,5 +1,5 @@
 //! Each kind of sentence once, as a person reads it.
-use crate::{File, Refused, sentence};
+use crate::{File, Reason, Refused, sentence};
 use std::test::Fail;
 
 const PLATE: &[u8] =
@@ -112,6 +112,7 @@ fn what_is_no_printable_sign_is_made_visible(rt: HostRuntime) -> Result<(), Fail
             name: "b\x1b",
             fault: 3,
             limit: 1_048_576,
+            reason: Reason::Unknown,
         },
     )?;
     assert_eq!(rt; said.as_str(), "b\\x1b: refused: there is no such file\n");
@@ -120,7 +121,11 @@ fn what_is_no_printable_sign_is_made_visible(rt: HostRuntime) -> Result<(), Fail
 
 #[test]
 fn words_are_answered_by_the_form_of_their_verb(rt: HostRuntime) -> Result<(), Fail> {
-    let words = [String::from_str(rt.alloc(), "geom")?];
+    let alloc = rt.alloc();
+    let words = [
+        String::from_str(alloc, "geom")?,
+        String::from_str(alloc, "--maxh")?,
+    ];
     let said = sentence(
         rt.alloc(),
         &Refused::Words {
@@ -130,7 +135,25 @@ fn words_are_answered_by_the_form_of_their_verb(rt: HostRuntime) -> Result<(), F
     )?;
     assert_eq!(rt;
         said.as_str(),
-        "netmesh: refused: the words are not in the form geom GEOMETRY\n"
+        "netmesh: refused: '--maxh', word 2, can't stand there; the form is geom GEOMETRY\n"
+    );
+    Ok(())
+}
+
+#[test]
+fn the_reason_of_the_system_is_added(rt: HostRuntime) -> Result<(), Fail> {
+    let said = sentence(
+        rt.alloc(),
+        &Refused::Folder {
+            name: "m",
+            fault: 1,
+            limit: 1_048_576,
+            reason: Reason::IsFolder,
+        },
+    )?;
+    assert_eq!(rt;
+        said.as_str(),
+        "m: refused: the file can't be read or written: it is a folder\n"
     );
     Ok(())
 }

@@ -13,7 +13,7 @@ use Rattle.vol_format.specs.declared.refusal.VolRefusal.{VolRefusal}
 use Rattle.run_log.specs.declared.log.Log.{Log as LogValue}
 use Rattle.run_log.specs.declared.refusal.LogRefusal.{LogRefusal}
 use Rattle.run_log.specs.View.{Shows}
-use Rattle.netmesh_cli.specs.declared.words_fault.WordsFault.{WordsFault}
+use Rattle.call_words.specs.declared.words_fault.WordsFault.{WordsFault}
 use Rattle.netmesh_cli.specs.declared.outcome.Refusal.{Refusal}
 use Rattle.netmesh_cli.specs.declared.outcome.Refusal.TheVariants.{Words, In2d, Geometry, Rules, Vol, Log, Folder, Out, Memory, NotYet}
 use Rattle.netmesh_cli.specs.Accepted.{IsTextFault, IsGeometryText, IsGeometryFault, HasGeometry, HasRules, IsRulesFault, IsMeshText, IsMeshFault, HasState, IsStateFault}

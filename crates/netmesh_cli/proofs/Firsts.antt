@@ -6,7 +6,7 @@ use Rattle.folder_io.specs.Causes.{Told}
 use Rattle.folder_io.specs.Names.{Files, Holds, IsLonger, IsMissing}
 use Rattle.folder_io.specs.States.{FolderState}
 use Rattle.folder_io.proofs.Counts.{rose_from_earlier}
-use Rattle.netmesh_cli.specs.declared.words_fault.WordsFault.{WordsFault}
+use Rattle.call_words.specs.declared.words_fault.WordsFault.{WordsFault}
 use Rattle.netmesh_cli.specs.declared.outcome.Refusal.{Refusal}
 use Rattle.netmesh_cli.specs.declared.outcome.Refusal.TheVariants.{Words, In2d, Geometry, Rules, Vol, Log, Folder, Out, Memory, NotYet}
 use Rattle.netmesh_cli.specs.Causes.{HoldsWithin, FolderFault, call_failed, too_long, missing, FetchRefused, HasFailed}
@@ -16,7 +16,7 @@ use Rattle.netmesh_cli.specs.BytesRefused.{MayRefuse}
 use Rattle.netmesh_cli.specs.Served.{IsListed}
 use Rattle.netmesh_cli.specs.Top.{IsFailureOrMemory}
 use Rattle.netmesh_cli.proofs.Accepting.{held_once, accepted_unrejected, one_rejection, no_words_there, no_out_there, no_folder_there, no_first_there}
-use Rattle.netmesh_cli.proofs.Rejecting.{MayReject}
+use Rattle.netmesh_cli.proofs.Rejecting.{RejectedBeside, MayReject}
 use Rattle.netmesh_cli.proofs.Tolds.{told_both, at_told}
 
 -- ---- one file
@@ -112,23 +112,23 @@ take_of_fetch before now Out file refused = absurd refused
 take_of_fetch before now Memory file refused = tt
 take_of_fetch before now (NotYet part) file refused = absurd refused
 
-rejected_at : (held : Option Files) (r : Refusal) (file : Taken) (bytes : List ℕ) → Told held (λ files. HoldsWithin (limit_of file.kind) files file.name bytes) → CanReject file.kind r → Told held (λ files. Rejects files file.kind bytes r) → CanReject file.kind r × Told held (λ files. HoldsRejected files r file)
-rejected_at held r file bytes told can rejects = (can, told_both held _ _ _ (λ files holds rejected. record { bytes = bytes; holds = holds; rejected = rejected }) told rejects)
+rejected_at : (held : Option Files) (r : Refusal) (file : Taken) (bytes : List ℕ) → Told held (λ files. HoldsWithin (limit_of file.kind) files file.name bytes) → RejectedBeside held file.kind bytes r → CanReject file.kind r × Told held (λ files. HoldsRejected files r file)
+rejected_at held r file bytes told may = (may.0, told_both held _ _ _ (λ files holds rejected. record { bytes = bytes; holds = holds; rejected = rejected }) told may.1)
 
 pub take_of_bytes : (before now : FolderState) (r : Refusal) (file : Taken) (taken bytes : List ℕ) → bytes ≡ taken → Told before.held (λ files. HoldsWithin (limit_of file.kind) files file.name taken) → MayReject before.held file.kind bytes r → TakeRefused before now r file
-take_of_bytes before now r file taken bytes same told may = let at = subst (λ (b : List ℕ). MayReject before.held file.kind b r) same may in go r at.can at.rejects
+take_of_bytes before now r file taken bytes same told may = go r (subst (λ (b : List ℕ). MayReject before.held file.kind b r) same may)
   where
-    go : (r : Refusal) → MayRefuse (CanReject file.kind) r → Told before.held (λ files. MayRefuse (Rejects files file.kind taken) r) → TakeRefused before now r file
-    go (Words fault) can rejects = rejected_at before.held (Words fault) file taken told can rejects
-    go (In2d fault) can rejects = rejected_at before.held (In2d fault) file taken told can rejects
-    go (Geometry fault) can rejects = rejected_at before.held (Geometry fault) file taken told can rejects
-    go (Rules fault) can rejects = rejected_at before.held (Rules fault) file taken told can rejects
-    go (Vol fault) can rejects = rejected_at before.held (Vol fault) file taken told can rejects
-    go (Log fault) can rejects = rejected_at before.held (Log fault) file taken told can rejects
-    go (Folder name number) can rejects = absurd (no_folder_there file.kind name number can)
-    go Out can rejects = rejected_at before.held Out file taken told can rejects
-    go Memory can rejects = tt
-    go (NotYet part) can rejects = rejected_at before.held (NotYet part) file taken told can rejects
+    go : (r : Refusal) → MayReject before.held file.kind taken r → TakeRefused before now r file
+    go (Words fault) may = rejected_at before.held (Words fault) file taken told may
+    go (In2d fault) may = rejected_at before.held (In2d fault) file taken told may
+    go (Geometry fault) may = rejected_at before.held (Geometry fault) file taken told may
+    go (Rules fault) may = rejected_at before.held (Rules fault) file taken told may
+    go (Vol fault) may = rejected_at before.held (Vol fault) file taken told may
+    go (Log fault) may = rejected_at before.held (Log fault) file taken told may
+    go (Folder name number) may = absurd (no_folder_there file.kind name number may.0)
+    go Out may = rejected_at before.held Out file taken told may
+    go Memory may = tt
+    go (NotYet part) may = rejected_at before.held (NotYet part) file taken told may
 
 -- a take after calls of the folder that left what it holds
 fault_since : (limit : ℕ) (name : List ℕ) (s0 s1 s2 : FolderState) → s1.held ≡ s0.held → s0.faults ≤ s1.faults → (number : ℕ) → FolderFault limit name s1 s2 number → FolderFault limit name s0 s2 number

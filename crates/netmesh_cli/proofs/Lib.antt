@@ -1,15 +1,5 @@
 -- Lemmas, by theme.
 --
--- the words of a call, as a function and as `clap` reads them
-pub mod WordsRead
-pub mod Walking
-pub mod Calling
-pub mod Exclusion
-pub mod Uses
-pub mod Tables
-pub mod ByClap
-pub mod FormReads
-pub mod FormPlaces
 -- what is read of a file, which other answer it shuts out, and the first file that isn't accepted
 pub mod Refusals
 pub mod Readable

@@ -13,7 +13,7 @@ use Rattle.mesh_check.specs.declared.verdict.Verdict.{Verdict}
 use Rattle.mesh_check.specs.Verdict.{IsVerdict}
 use Rattle.netmesh_cli.specs.declared.outcome.Refusal.{Refusal}
 use Rattle.netmesh_cli.specs.declared.outcome.Refusal.TheVariants.{Words, In2d, Geometry, Rules, Vol, Log, Folder, Out, Memory, NotYet}
-use Rattle.netmesh_cli.specs.Commands.{MeshTask}
+use Rattle.call_words.specs.Commands.{MeshTask}
 use Rattle.netmesh_cli.specs.Accepted.{IsMeshText}
 use Rattle.netmesh_cli.specs.Causes.{IsMemory, HoldsWithin}
 use Rattle.netmesh_cli.specs.Taking.{HoldsAccepted, TakeRefused, geometry_at, rule_file_at, mesh_at, state_log_at}

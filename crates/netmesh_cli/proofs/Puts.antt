@@ -13,7 +13,7 @@ use Rattle.netmesh_cli.specs.Causes.{PutRefused}
 use Rattle.netmesh_cli.specs.declared.made.Put.{Put as PutValue}
 use Rattle.netmesh_cli.specs.Jobs.{Put, put_of, names_of_puts}
 use Rattle.netmesh_cli.specs.Served.{IsListed, AreApart, put_all, StopsAt, PutsRefused, ArePutInOrder}
-use Rattle.netmesh_cli.proofs.Walking.{first_cut}
+use Rattle.call_words.proofs.Walking.{first_cut}
 use Rattle.netmesh_cli.proofs.Tolds.{told_both_weaker, told_chain}
 
 -- ---- from one put to the rest of them

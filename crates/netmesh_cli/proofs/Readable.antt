@@ -18,12 +18,12 @@ use Rattle.in2d_reader.specs.Grammar.{is_known, HasEnds}
 use Rattle.in2d_reader.specs.Normal.{IsDec, IsPointRow, IsSegmentRow, IsMaterialRow, CanPrint}
 use Rattle.geom_check.specs.Placed.{IsReadable, IsReadableNumber, IsReadablePoint, IsReadableSegment, IsReadableMaterial, IsReadableIfAny}
 use Rattle.word_scan.specs.Numerals.{whole_of, value_of, is_whole}
-use Rattle.netmesh_cli.specs.CommandLine.{Given}
-use Rattle.netmesh_cli.specs.Commands.{ViewOf, IsSize, IsWholeFrom, HasValue, AreOptions, IsCommand, task_of}
+use Rattle.call_words.specs.CommandLine.{Given}
+use Rattle.call_words.specs.Commands.{ViewOf, IsSize, IsWholeFrom, HasValue, AreOptions, IsCommand, task_of}
 use Rattle.netmesh_cli.specs.Jobs.{AreInRange, AreFew}
-use Rattle.netmesh_cli.specs.declared.command.MeshOptions.{MeshOptions}
-use Rattle.netmesh_cli.specs.declared.command.MeshCall.{MeshCall}
-use Rattle.netmesh_cli.specs.declared.command.Command.TheVariants as commands
+use Rattle.call_words.specs.declared.command.MeshOptions.{MeshOptions}
+use Rattle.call_words.specs.declared.command.MeshCall.{MeshCall}
+use Rattle.call_words.specs.declared.command.Command.TheVariants as commands
 
 scale_least : (z : ℤ) → unsigned_abs z ≤ 99 → negsuc 98 ≤ℤ z
 scale_least z h = omega (arith, ints)

@@ -12,10 +12,12 @@ use Rattle.netmesh_cli.specs.Kinds.{Kind, AGeometry, ARuleFile, AMesh, AStateLog
 use Rattle.netmesh_cli.specs.BytesRefused.{MayRefuse}
 use Rattle.netmesh_cli.proofs.Tolds.{told_all, told_weaker}
 
--- the bytes of a file of this kind may be refused so, whatever is told of the files beside it
-pub record MayReject (held : Option Files) (kind : Kind) (bytes : List ℕ) (r : Refusal) : Type 0 where
-  pub can : MayRefuse (CanReject kind) r
-  pub rejects : Told held (λ files. MayRefuse (Rejects files kind bytes) r)
+-- there is such a refusal of a file of this kind, and it is that of the bytes, whatever is told of the files beside it
+abbrev pub RejectedBeside : Option Files → Kind → List ℕ → Refusal → Type 0
+RejectedBeside held kind bytes r = CanReject kind r × Told held (λ files. Rejects files kind bytes r)
+
+abbrev pub MayReject : Option Files → Kind → List ℕ → Refusal → Type 0
+MayReject held kind bytes r = MayRefuse (RejectedBeside held kind bytes) r
 
 may_weaker : (P Q : Refusal → Type 0) (r : Refusal) → ((s : Refusal) → P s → Q s) → MayRefuse P r → MayRefuse Q r
 may_weaker P Q (Words fault) all may = all (Words fault) may
@@ -31,10 +33,7 @@ may_weaker P Q (NotYet part) all may = all (NotYet part) may
 
 -- a reader that looks at the bytes alone
 of_bytes : (held : Option Files) (kind : Kind) (bytes : List ℕ) (r : Refusal) (P : Refusal → Type 0) → ((s : Refusal) → P s → CanReject kind s) → ((files : Files) (s : Refusal) → P s → Rejects files kind bytes s) → MayRefuse P r → MayReject held kind bytes r
-of_bytes held kind bytes r P can rejects may = record {
-  can = may_weaker P (CanReject kind) r can may;
-  rejects = told_all held _ (λ files _. may_weaker P (Rejects files kind bytes) r (rejects files) may);
-}
+of_bytes held kind bytes r P can rejects may = may_weaker P (RejectedBeside held kind bytes) r (λ s p. (can s p, told_all held (λ files. Rejects files kind bytes s) (λ files is. rejects files s p))) may
 
 -- ---- a geometry
 
@@ -102,9 +101,7 @@ mesh_can shift bytes Memory rejects = rejects
 mesh_can shift bytes (NotYet part) rejects = rejects
 
 pub mesh_may : (held : Option Files) (geometry bytes : List ℕ) (raw : RawGeometry) (g : PlanarMap) (r : Refusal) → Told held (λ files. HoldsGeometry files geometry raw g) → MayRefuse (VolRejects g.shift bytes) r → MayReject held (AMesh geometry) bytes r
-mesh_may held geometry bytes raw g r holds may = record {
-  can = may_weaker (VolRejects g.shift bytes) (CanReject (AMesh geometry)) r (mesh_can g.shift bytes) may;
-  rejects = told_weaker held _ _
-      (λ files h. may_weaker (VolRejects g.shift bytes) (Rejects files (AMesh geometry) bytes) r (λ s refused. record { raw = raw; grid = g; held = h; refused = refused }) may)
-      holds;
-}
+mesh_may held geometry bytes raw g r holds may =
+    may_weaker (VolRejects g.shift bytes) (RejectedBeside held (AMesh geometry) bytes) r
+    (λ s refused. (mesh_can g.shift bytes s refused, told_weaker held (λ files. HoldsGeometry files geometry raw g) (λ files. MeshRejects files geometry bytes s) (λ files h. record { raw = raw; grid = g; held = h; refused = refused }) holds))
+    may

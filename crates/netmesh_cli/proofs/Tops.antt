@@ -9,7 +9,7 @@ use Rattle.netmesh_cli.specs.declared.outcome.Outcome.{Outcome}
 use Rattle.netmesh_cli.specs.declared.outcome.Outcome.TheVariants.{Done, Stuck, Stopped, Good, Bad, Shown, Refused}
 use Rattle.netmesh_cli.specs.declared.outcome.Refusal.{Refusal}
 use Rattle.netmesh_cli.specs.declared.outcome.Refusal.TheVariants.{Words, In2d, Geometry, Rules, Vol, Log, Folder, Out, Memory, NotYet}
-use Rattle.netmesh_cli.specs.Commands.{MeshTask}
+use Rattle.call_words.specs.Commands.{MeshTask}
 use Rattle.netmesh_cli.specs.Causes.{IsUntaken}
 use Rattle.netmesh_cli.specs.Jobs.{Job, MeshJob, GeomJob, RulesJob, CheckJob, ViewJob, puts_of, EndsSo, Put, GenJob}
 use Rattle.netmesh_cli.specs.Served.{AreApart, put_all, IsServed, IsAnswer, HasAll, WrittenBefore, Course, RefusalCause, RefusalStands, Keeps}

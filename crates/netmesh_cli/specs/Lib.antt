@@ -1,11 +1,6 @@
 -- The words of the contracts.
 --
--- what the words of a call ask for
-pub mod CommandLine
-pub mod Commands
-pub mod WordsRead
-pub mod Asks
-pub mod Forms
+-- what is built of what the words of a call ask for
 pub mod Words
 -- which bytes are accepted, and what is made of them
 pub mod Accepted

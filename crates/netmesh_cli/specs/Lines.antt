@@ -15,8 +15,8 @@ use Rattle.vol_format.specs.declared.refusal.VolRefusal.{VolRefusal}
 use Rattle.vol_format.specs.declared.refusal.VolRefusal.TheVariants as fault_of_mesh
 use Rattle.run_log.specs.declared.refusal.LogRefusal.{LogRefusal}
 use Rattle.run_log.specs.declared.refusal.LogRefusal.TheVariants as fault_of_log
-use Rattle.netmesh_cli.specs.declared.words_fault.WordsFault.{WordsFault}
-use Rattle.netmesh_cli.specs.declared.words_fault.WordsFault.TheVariants.{NoVerb, UnknownVerb, Form, Value, SameName}
+use Rattle.call_words.specs.declared.words_fault.WordsFault.{WordsFault}
+use Rattle.call_words.specs.declared.words_fault.WordsFault.TheVariants.{NoVerb, UnknownVerb, Form, Value, SameName}
 use Rattle.netmesh_cli.specs.declared.outcome.Refusal.{Refusal}
 use Rattle.netmesh_cli.specs.declared.outcome.Refusal.TheVariants.{Words, In2d, Geometry, Rules, Vol, Log, Folder, Out, Memory, NotYet}
 

@@ -29,7 +29,7 @@ use Rattle.mesh_run.specs.Mesh.{mesh_of_run}
 use Rattle.vol_format.specs.Vol.{vol_text}
 use Rattle.run_log.specs.Log.{log_text}
 use Rattle.run_log.specs.Summary.{summary_line}
-use Rattle.netmesh_cli.specs.declared.command.MeshOptions.{MeshOptions}
+use Rattle.call_words.specs.declared.command.MeshOptions.{MeshOptions}
 use Rattle.netmesh_cli.specs.declared.run.Input.{Input}
 use Rattle.netmesh_cli.specs.declared.outcome.Outcome.{Outcome}
 use Rattle.netmesh_cli.specs.declared.outcome.Outcome.TheVariants.{Done, Stuck, Stopped}

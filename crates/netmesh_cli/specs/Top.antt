@@ -16,8 +16,8 @@ use Rattle.netmesh_cli.specs.declared.outcome.Outcome.{Outcome}
 use Rattle.netmesh_cli.specs.declared.outcome.Outcome.TheVariants.{Refused}
 use Rattle.netmesh_cli.specs.declared.outcome.Refusal.{Refusal}
 use Rattle.netmesh_cli.specs.declared.outcome.Refusal.TheVariants.{Words, Folder, Out, Memory, NotYet}
-use Rattle.netmesh_cli.specs.declared.words_fault.WordsFault.{WordsFault}
-use Rattle.netmesh_cli.specs.Commands.{MeshTask, IsFault}
+use Rattle.call_words.specs.declared.words_fault.WordsFault.{WordsFault}
+use Rattle.call_words.specs.Commands.{MeshTask, IsFault}
 use Rattle.netmesh_cli.specs.Words.{AskForUnbuilt}
 use Rattle.netmesh_cli.specs.Causes.{IsMemory, IsUntaken}
 use Rattle.netmesh_cli.specs.Taking.{AreAccepted, FirstRefused}

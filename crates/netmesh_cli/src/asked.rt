@@ -1,12 +1,12 @@
 //! What the words of a call ask for, where that is built.
 
 ghost use Rattle.std.specs.Prelude.{map, IfOk, IfErr, string_bytes};
-ghost use Rattle.netmesh_cli.specs.Commands.{IsCommand};
+ghost use Rattle.call_words.specs.Commands.{IsCommand};
 ghost use Rattle.netmesh_cli.specs.Words.{WordsRefused};
 ghost use Rattle.netmesh_cli.specs.Jobs.{job_of, task_of_job, IsInRange};
 
 use super::Refusal;
-use super::command::{Command, MeshCall, read_words};
+use call_words::{Command, MeshCall, read_words};
 use std::alloc::Global;
 
 /// The part that words are that are not built yet.

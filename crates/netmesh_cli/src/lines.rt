@@ -5,7 +5,8 @@ ghost use Rattle.std.specs.Fmt.{decimal};
 ghost use Rattle.netmesh_cli.specs.Lines.{numbers_line, words_number, in2d_line, geometry_line};
 ghost use Rattle.netmesh_cli.specs.Lines.{rules_line, vol_line, log_line, refusal_line};
 
-use super::{Refusal, WordsFault};
+use super::Refusal;
+use call_words::WordsFault;
 use geom_check::GeomRefusal;
 use in2d_reader::In2dRefusal;
 use rule_reader::RuleRefusal;

@@ -22,49 +22,41 @@ ghost use Rattle.netmesh_cli.specs.Status.{status_of};
 mod areas;
 mod asked;
 mod check;
-mod command;
 pub mod file_laws;
 mod files;
-mod form;
-mod forms;
 mod generated;
 mod geom;
 mod geometry;
 pub mod geometry_laws;
-pub mod laws;
 mod lines;
 mod log_file;
 mod made;
 mod mesh;
 mod mesh_file;
 mod outcome;
+mod progress;
 mod rule_file;
 pub mod rule_laws;
 mod rules;
 mod run;
 mod said;
 mod serve;
-mod settings;
 mod texts;
 mod top;
-mod values;
 mod view;
-mod words_fault;
 
-pub use command::{Command, MeshOptions, Verb, read_words};
+pub use call_words::{Command, MeshOptions, Verb, WordsFault, read_words};
 use fault_text::Refused;
 use folder_io::{FolderDisk, SinkStd};
 pub use mesh_run::{Gate, NoGate};
 pub use outcome::{Outcome, Refusal};
+use progress::Progress;
 use std::alloc::Global;
 use std::env;
 use std::io::{self, ErrorKind};
 use std::process::ExitCode;
 pub use top::netmesh;
-pub use words_fault::WordsFault;
 
-#[cfg(test)]
-mod command_tests;
 #[cfg(test)]
 mod tests;
 
@@ -133,7 +125,8 @@ fn main(rt: HostRuntime) -> ExitCode {
     };
     let mut folder = FolderDisk::new(for_folder, alloc);
     let mut out = SinkStd::new(for_sink);
-    let outcome = netmesh(&rt, alloc, &words, &mut folder, &mut out, &NoGate);
+    let gate = Progress::new(&rt);
+    let outcome = netmesh(&rt, alloc, &words, &mut folder, &mut out, &gate);
     if let Outcome::Refused(refusal) = &outcome {
         said::say(&rt, &mut folder, &words, refusal);
     }

@@ -7,7 +7,7 @@ ghost use Rattle.netmesh_cli.specs.Jobs.{AreInRange, IsMeshed, IsRunOutcome, Mes
 ghost use Rattle.netmesh_cli.specs.Jobs.{names_of_puts, puts_of, task_of_mesh};
 ghost use Rattle.netmesh_cli.specs.Served.{MakeRefused};
 
-use super::command::MeshCall;
+use call_words::MeshCall;
 use super::geometry::take_geometry;
 use super::made::{Made, Put};
 use super::rule_file::take_rules;

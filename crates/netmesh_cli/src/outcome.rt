@@ -4,7 +4,7 @@ ghost use Rattle.std.specs.Prelude.{◌≡◌};
 ghost use Rattle.netmesh_cli.specs.declared.outcome.Refusal.TheVariants.{Memory as NoMemory};
 ghost use Rattle.netmesh_cli.specs.Status.{status_of, refusal_status};
 
-use super::WordsFault;
+use call_words::WordsFault;
 use geom_check::GeomRefusal;
 use in2d_reader::In2dRefusal;
 use rule_reader::RuleRefusal;

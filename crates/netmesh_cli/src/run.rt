@@ -8,7 +8,7 @@ ghost use Rattle.mesh_run.specs.RunState.{AreOptions};
 ghost use Rattle.netmesh_cli.specs.Run.{input_of, greatest_size, run_options, IsRunOf, IsExactRun};
 ghost use Rattle.netmesh_cli.specs.Jobs.{AreInRange};
 
-use super::command::MeshOptions;
+use call_words::MeshOptions;
 use geom_check::Geometry;
 use grid_geom::LONGEST;
 use mesh_run::{Gate, Options, WholeRun, run_all};

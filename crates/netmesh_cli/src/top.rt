@@ -2,8 +2,8 @@
 
 ghost use Rattle.std.specs.Prelude.{◌≡◌, ◌≤◌, map, string_bytes};
 ghost use Rattle.folder_io.specs.Causes.{Told, ToldBoth};
-ghost use Rattle.netmesh_cli.specs.declared.words_fault.WordsFault.{WordsFault as WordsFaultValue};
-ghost use Rattle.netmesh_cli.specs.Commands.{MeshTask, MeshOf, IsCommand, IsFault};
+ghost use Rattle.call_words.specs.declared.words_fault.WordsFault.{WordsFault as WordsFaultValue};
+ghost use Rattle.call_words.specs.Commands.{MeshTask, MeshOf, IsCommand, IsFault};
 ghost use Rattle.netmesh_cli.specs.Words.{AskForUnbuilt};
 ghost use Rattle.netmesh_cli.specs.Causes.{IsUntaken, HasFailed};
 ghost use Rattle.netmesh_cli.specs.Jobs.{Job, MeshJob, IsInRange};

@@ -1,8 +1,8 @@
 use Rattle.std.proofs.Common.{subst, map, string_bytes, IfOk}
 use Rattle.std.specs.Prelude.{Result}
-use Rattle.netmesh_cli.specs.declared.command.Command.{Command}
-use Rattle.netmesh_cli.specs.declared.words_fault.WordsFault.{WordsFault}
-use Rattle.netmesh_cli.specs.Commands.{IsCommand, task_of}
+use Rattle.call_words.specs.declared.command.Command.{Command}
+use Rattle.call_words.specs.declared.words_fault.WordsFault.{WordsFault}
+use Rattle.call_words.specs.Commands.{IsCommand, task_of}
 use Rattle.netmesh_cli.proofs.Readable.{call_in_range, view_in_range, few_squares}
 use Rattle.netmesh_cli.proofs.asked.read_asked.Goals as goal
 

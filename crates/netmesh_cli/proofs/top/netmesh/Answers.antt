@@ -1,6 +1,6 @@
 use Rattle.std.proofs.Common.{arith}
 use Rattle.netmesh_cli.specs.Jobs.{job_of, task_of_job}
-use Rattle.netmesh_cli.proofs.Exclusion.{never_both}
+use Rattle.call_words.proofs.Exclusion.{never_both}
 use Rattle.netmesh_cli.proofs.Askings.{answer_at_fault, answer_not_built, job_apart, job_is_built, not_unbuilt, no_words_cause, other_answers, other_exactly, other_mesh, refused_answers, refused_words_exactly, unwritten_words}
 use Rattle.netmesh_cli.proofs.Tops.{line_after}
 use Rattle.netmesh_cli.proofs.top.netmesh.Goals as goal

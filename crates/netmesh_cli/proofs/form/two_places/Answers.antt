@@ -1,7 +1,0 @@
-use Rattle.std.proofs.Common.{ap, map, string_bytes}
-use Rattle.std.specs.Option.{option_copied}
-use Rattle.netmesh_cli.proofs.FormPlaces.{two_found}
-use Rattle.netmesh_cli.proofs.form.two_places.Goals as goal
-
-pub returns-clause-ok : goal.returns-clause-ok
-returns-clause-ok c = two_found (map string_bytes c.args.words.now) c.args.form c.in-Some.form c.in-Some-first.first.now c.in-Some-second.second.now c.requires c.in-Some.is (ap option_copied c.in-Some-first.is) (ap option_copied c.in-Some-second.is)
