@@ -26,7 +26,8 @@ pub mod Ended
 pub mod SameState
 -- LinesUp: front lines by rising numbers.
 pub mod LinesUp
--- Searched: what a search by classes and lines has found.
+-- Turns: what comes before the first turn on the worklist is refused. Searched: what is remembered depends on points and front alone.
+pub mod Turns
 pub mod Searched
 -- Put: an application put on a front.
 pub mod Put
@@ -56,7 +57,8 @@ pub mod DoneWhole
 pub mod WholeRows
 -- Touched: boxes of elements.
 pub mod HeldAreas
--- What is left of refusals.
+-- Tried: lines put on the worklist. What is left of refusals.
+pub mod Tried
 pub mod Forgotten
 pub mod Noted
 pub mod StillRemembered

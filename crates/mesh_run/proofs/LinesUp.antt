@@ -1,15 +1,12 @@
 -- A search that takes the front lines by rising numbers passes no line: between a line and the least one above it no number is that of a line.
-use Rattle.std.proofs.Common.{◌≡◌, ℕ, zero, suc, ◌-◌, ◌<◌, ◌≤◌, ◌⊎◌, inl, inr, Bool, true, false, cond, List, [], ◌∷◌, length, slice_index_or, refl, sym, ap, subst, Option, Some, None, nat_lt, is_some, arith}
+use Rattle.std.proofs.Common.{◌≡◌, ℕ, zero, suc, ◌-◌, ◌<◌, ◌≤◌, ◌⊎◌, inl, inr, Bool, true, false, cond, List, [], ◌∷◌, length, slice_index_or, refl, sym, ap, subst, Option, Some, None, nat_lt, is_some, arith, BTreeSet}
 use Rattle.std.specs.Option.{option_map}
 use Rattle.std.specs.List.{AllByRecursion, Contains, find}
-use Rattle.state_law.specs.State.{State, AreRising}
+use Rattle.state_law.specs.State.{AreRising}
 use Rattle.front_chain.specs.Front.{number_above, line_at}
 use Rattle.admission.specs.Around.{IsThere, ahead}
 use Rattle.admission.proofs.Ahead.{next_ahead}
-use Rattle.rule_match.specs.Least.{HasNone}
-use Rattle.mesh_run.specs.Remembered.{AreNoFewer, ArePassed, AreRemembered}
-use Rattle.mesh_run.specs.RunState.{DoesPrecede}
-use Rattle.mesh_run.specs.Steps.{RunSetting}
+use Rattle.mesh_run.specs.Worklist.{IsToTry, least_open}
 
 abbrev Triple : Type 0
 Triple = ℕ × ℕ × ℕ
@@ -20,6 +17,11 @@ is_above after n h = grind arith
 above_here : (line : Triple) (lines : List Triple) (after : ℕ) (b : Bool) → nat_lt after line.0 ≡ b → number_above (line ∷ lines) after ≡ cond b (Some line.0) (number_above lines after)
 above_here line lines after true e = ap (λ b. option_map (λ (l : Triple). l.0) (cond b (Some line) (find (λ (l : Triple). nat_lt after l.0) lines))) e
 above_here line lines after false e = ap (λ b. option_map (λ (l : Triple). l.0) (cond b (Some line) (find (λ (l : Triple). nat_lt after l.0) lines))) e
+
+-- the number is before the other one; before none where every number is
+abbrev pub DoesPrecede : ℕ → Option ℕ → Type 0
+DoesPrecede n None = Unit {0}
+DoesPrecede n (Some m) = n < m
 
 -- a number isn't before the one that is found first among greater ones
 abbrev IsNotBefore : ℕ → Option ℕ → Type 0
@@ -69,11 +71,7 @@ still_fewer lines next line before after r t b a =
     subst (λ (o : Option ℕ). length (ahead lines o) < length (ahead lines before)) (sym a)
     (subst (λ (o : Option ℕ). length (ahead lines (number_above lines line)) < length (ahead lines o)) (sym b) (fewer_ahead lines next line r here))
 
--- ---- lines that were refused one after another
--- each line before the number was refused at the class
-abbrev pub AreNotedTo : List Triple → List ℕ → ℕ → Option ℕ → Type 0
-AreNotedTo front least class o = (line : Triple) → Contains front line → DoesPrecede line.0 o → class < slice_index_or least line.0 0
-
+-- ---- lines that are put on the worklist one after another
 -- a line before the least one above a number isn't above the number
 no_more : (front : List Triple) (next after : ℕ) (line : Triple) → AreRising front next → Contains front line → DoesPrecede line.0 (number_above front after) → line.0 ≤ after
 no_more front next after line r c p = by (compared line.0 after)
@@ -88,33 +86,29 @@ no_more front next after line r c p = by (compared line.0 after)
     by (inl l) = l
     by (inr l) = absurd (subst (λ (m : ℕ). after < m → IsNotBefore m (number_above front after)) number (not_before front next after c.0 line r c.1) l p)
 
-module _ (front : List Triple) (next : ℕ) (rising : AreRising front next) (class : ℕ) where
-  -- at the start: those below a number were passed
-  pub noted_at_start : (least : List ℕ) (number after : ℕ) → AllByRecursion (λ line. 1 ≤ line.0) front → ArePassed front least class number → after ≡ number - 1 → AreNotedTo front least class (number_above front after)
-  noted_at_start least number after positive passed e line c p = passed line c (below line.0 number after (no_more front next after line rising c p) e one)
-    where
-      below : (n number after : ℕ) → n ≤ after → after ≡ number - 1 → 1 ≤ n → n < number
-      below n number after l e f = omega (arith, e)
+-- each line before the number is on the worklist at the least class that is open to it
+abbrev pub AreOnTo : BTreeSet (ℕ × ℕ) → List Triple → List ℕ → ℕ → Option ℕ → Type 0
+AreOnTo work front refused last o = (line : Triple) → Contains front line → DoesPrecede line.0 o → least_open refused line.0 ≤ last → IsToTry work (least_open refused line.0, line.0)
 
+module _ (front : List Triple) (next : ℕ) (rising : AreRising front next) (refused : List ℕ) (last : ℕ) where
+  -- no line is before the first one
+  pub none_on_yet : (work : BTreeSet (ℕ × ℕ)) → AllByRecursion (λ line. 1 ≤ line.0) front → AreOnTo work front refused last (number_above front 0)
+  none_on_yet work positive line c p l = absurd (none line.0 one (no_more front next 0 line rising c p))
+    where
       one : 1 ≤ line.0
       one = subst (λ (l : Triple). 1 ≤ l.0) c.2 (positive_at front c.0 line positive c.1)
 
-  -- one more is refused
-  pub noted_on : (before after : List ℕ) (line : ℕ) → AreNotedTo front before class (Some line) → AreNoFewer before after → class < slice_index_or after line 0 → AreNotedTo front after class (number_above front line)
-  noted_on before after line h fewer here other c p = by (compared other.0 line (no_more front next line other rising c p))
+      none : (n : ℕ) → 1 ≤ n → n ≤ 0 → ⊥
+      none n a b = omega arith
+
+  -- one more is put on
+  pub one_more_on : (before after : BTreeSet (ℕ × ℕ)) (line : ℕ) → AreOnTo before front refused last (Some line) → ((turn : ℕ × ℕ) → IsToTry before turn → IsToTry after turn)
+      → (least_open refused line ≤ last → IsToTry after (least_open refused line, line)) → AreOnTo after front refused last (number_above front line)
+  one_more_on before after line h stay added other c p l = by (compared other.0 line (no_more front next line other rising c p))
     where
       compared : (n line : ℕ) → n ≤ line → (n < line) ⊎ (n ≡ line)
       compared n line l = grind arith
 
-      longer : (n a b : ℕ) → n < a → a ≤ b → n < b
-      longer n a b h k = omega arith
-
-      by : (other.0 < line) ⊎ (other.0 ≡ line) → class < slice_index_or after other.0 0
-      by (inl l) = longer class (slice_index_or before other.0 0) (slice_index_or after other.0 0) (h other c l) (fewer.each other.0)
-      by (inr e) = subst (λ (n : ℕ). class < slice_index_or after n 0) (sym e) here
-
--- what was refused before a number has no candidate
-pub none_noted : (s : RunSetting) (st : State) (least : List ℕ) (class : ℕ) (o : Option ℕ) → 1 ≤ class → AreRemembered least s st → AreNotedTo st.front least class o → (n : ℕ) → DoesPrecede n o → HasNone s.sizes st s.rules n class
-none_noted s st least class o first h noted n p = record {
-  none = λ t a c. (h.none n class first (subst (λ (m : ℕ). class < slice_index_or least m 0) a.same_line (noted t.line a.on_front (subst (λ (m : ℕ). DoesPrecede m o) (sym a.same_line) p)))).none t a c;
-}
+      by : (other.0 < line) ⊎ (other.0 ≡ line) → IsToTry after (least_open refused other.0, other.0)
+      by (inl b) = stay (least_open refused other.0, other.0) (h other c b l)
+      by (inr e) = subst (λ (n : ℕ). least_open refused n ≤ last → IsToTry after (least_open refused n, n)) (sym e) added l

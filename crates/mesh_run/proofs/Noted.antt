@@ -11,7 +11,7 @@ use Rattle.rule_match.specs.Least.{HasNone}
 use Rattle.rule_match.proofs.BaseLines.{line_there}
 use Rattle.rule_match.proofs.Gathered.{line_numbered}
 use Rattle.mesh_run.specs.declared.refusals.Refusals.{Refusals}
-use Rattle.mesh_run.specs.Remembered.{AreNoFewer, AreTrue, IsNoted, IsNoFarther}
+use Rattle.mesh_run.specs.Remembered.{AreTrue, IsNoted, IsNoFarther}
 use Rattle.mesh_run.specs.Steps.{RunSetting}
 use Rattle.mesh_run.proofs.Searched.{noted_remembered}
 use Rattle.mesh_run.proofs.StillNone.{below_next}
@@ -58,25 +58,11 @@ module _ (sizes : SizeField) (f : FrontState) (n : ℕ) (before after : List ℕ
       by (inl same) = h other (subst (λ (v : ℕ). 0 < v) same p)
       by (inr e) = subst (λ (m : ℕ). m < f.next) (sym e.0) (here (line_at f.lines line) refl there)
 
--- no less is remembered than before
-pub no_fewer : (before after : List ℕ) (line class : ℕ) → slice_index_or before line 0 ≤ class → IsNoted before after line (class + 1) → AreNoFewer before after
-no_fewer before after line class l noted = record { each = λ other. by other (noted.each other) }
-  where
-    level : (m n : ℕ) → m ≡ n → n ≤ m
-    level m n e = omega (arith, e)
-
-    more : (m n class : ℕ) → m ≤ class → n ≡ class + 1 → m ≤ n
-    more m n class k e = omega (arith, e)
-
-    by : (other : ℕ) → (slice_index_or after other 0 ≡ slice_index_or before other 0) ⊎ ((other ≡ line) × (slice_index_or after other 0 ≡ class + 1)) → slice_index_or before other 0 ≤ slice_index_or after other 0
-    by other (inl e) = level (slice_index_or after other 0) (slice_index_or before other 0) e
-    by other (inr e) = more (slice_index_or before other 0) (slice_index_or after other 0) class (subst (λ (k : ℕ). slice_index_or before k 0 ≤ class) (sym e.0) l) e.1
-
 -- what is remembered with one more refusal is true
-pub noted_true : (s : RunSetting) (f : FrontState) (m after : Refusals) (far : Option Distance) (line class : ℕ) → IsFrontState f → AreTrue m s (state_of f) → IsNoted m.least.items after.least.items line (class + 1) → slice_index_or m.least.items line 0 ≤ class
-    → after.first ≡ m.first → after.reach ≡ m.reach → IfSome after.widest (IsNoFarther m.widest) → IfSome after.widest (IsNoFarther far) → is_some (line_at f.lines line) ≡ true → IfSome far (IsReachOfLine s.sizes f m.reach line)
+pub noted_true : (s : RunSetting) (f : FrontState) (m after : Refusals) (far : Option Distance) (line class : ℕ) → IsFrontState f → AreTrue m s (state_of f) → IsNoted m.least.items after.least.items line (class + 1)
+    → after.reach ≡ m.reach → IfSome after.widest (IsNoFarther m.widest) → IfSome after.widest (IsNoFarther far) → is_some (line_at f.lines line) ≡ true → IfSome far (IsReachOfLine s.sizes f m.reach line)
     → ((n : ℕ) → 1 ≤ n → n ≤ class → HasNone s.sizes (state_of f) s.rules line n) → AreTrue after s (state_of f)
-noted_true s f m after far line class front true_before noted less_before same_first reach first second there reaches none = record {
+noted_true s f m after far line class front true_before noted reach first second there reaches none = record {
   remembered = noted_remembered s (state_of f) m.least.items after.least.items line class true_before.remembered noted none;
   covers = subst (λ (n : ℕ). AllByRecursion (IsCoveredBy n) s.rules) (sym reach) true_before.covers;
   reaching = record {
@@ -84,12 +70,4 @@ noted_true s f m after far line class front true_before noted less_before same_f
     within = subst (λ (n : ℕ). IfSome after.widest (WithinAll s.sizes f n after.least.items)) (sym reach)
         (still_within s.sizes f m.reach m.least.items after.least.items line (class + 1) front noted m.widest far after.widest first second true_before.reaching.within reaches);
   };
-  passed = λ n other c l.
-      longer n (slice_index_or m.least.items other.0 0) (slice_index_or after.least.items other.0 0) (true_before.passed n other c (subst (λ (k : ℕ). other.0 < k) (ap (λ v. slice_index_or v.items n 0) same_first) l)) (fewer.each other.0);
 }
-  where
-    fewer : AreNoFewer m.least.items after.least.items
-    fewer = no_fewer m.least.items after.least.items line class less_before noted
-
-    longer : (n a b : ℕ) → n < a → a ≤ b → n < b
-    longer n a b h k = omega arith

@@ -75,15 +75,15 @@ opened_holds g p h options = subst IsRunState (sym (opened_is g p h)) (record {
     level n = omega arith
 
 -- nothing is remembered at the opening
-pub opened_remembers : (g : PlanarMap) (p : RunParts) (m : Refusals) → AreOpened g p → AreOptions p.options → IsEmpty p.rules m → DoesRemember (run_of p) m
+pub opened_remembers : (g : PlanarMap) (p : RunParts) (m : Refusals) → AreOpened g p → AreOptions p.options → IsEmpty p.rules m → DoesRemember (run_of p) m None
 opened_remembers g p m h options e = record {
   is_run = opened_holds g p h options;
   remembered = record {
     remembered = record { none = λ line class f l. absurd (nothing line class l) };
     covers = e.covers;
     reaching = record { given = λ line l. absurd (nothing line 0 l); within = by m.widest };
-    passed = λ class line c l. absurd (empty class line.0 (subst (λ (table : List ℕ). line.0 < slice_index_or table class 0) e.first l));
   };
+  to_try = tt;
 }
   where
     empty : (line class : ℕ) → class < slice_index_or [] line 0 → ⊥

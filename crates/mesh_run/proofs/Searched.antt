@@ -1,4 +1,4 @@
--- The search by classes and lines finds the application that comes next, or that nothing applies.
+-- What is remembered, and what comes next, depend on the points and the front alone.
 use Rattle.std.proofs.Common.{◌≡◌, ℕ, ◌+◌, ◌<◌, ◌≤◌, ◌⊎◌, inl, inr, slice_index_or, List, sym, ap, subst, ◌∙◌, arith, IfSome}
 use Rattle.std.specs.List.{Contains}
 use Rattle.grid_geom.specs.declared.Point.{Point}
@@ -7,38 +7,10 @@ use Rattle.rule_match.specs.Near.{IsReachAtMost}
 use Rattle.mesh_run.specs.declared.refusals.Refusals.{Refusals}
 use Rattle.state_law.specs.State.{State}
 use Rattle.rule_match.specs.declared.application.Application.{Application}
-use Rattle.rule_match.specs.Best.{IsBest}
 use Rattle.rule_match.specs.Least.{HasNone}
 use Rattle.mesh_run.specs.Steps.{RunSetting, IsNext, NothingApplies}
-use Rattle.mesh_run.specs.Remembered.{ArePassed, AreReaching, AreRemembered, AreSpentBelow, AreTrue, IsNoted}
-use Rattle.mesh_run.specs.RunState.{IsFirstOfClass, IsClassSpent}
+use Rattle.mesh_run.specs.Remembered.{AreReaching, AreRemembered, AreTrue, IsNoted}
 use Rattle.mesh_run.proofs.SameState.{AreSame, same_best, same_none}
-
-module _ (s : RunSetting) (st : State) (class : ℕ) (below : AreSpentBelow s st class) where
-  pub next_found : (a : Application) → 1 ≤ class → class ≤ s.last → IsFirstOfClass s st class a → IsNext s st a
-  next_found a f l h = record {
-    first_class = subst (λ (n : ℕ). 1 ≤ n) (sym h.same_class) f;
-    last_class = subst (λ (n : ℕ). n ≤ s.last) (sym h.same_class) l;
-    best = h.best;
-    least = λ n line first before. elim before [
-      | inl k ↦ (below.spent n first (subst (λ (m : ℕ). n < m) h.same_class k)).none line
-      | inr k ↦ subst (λ (m : ℕ). HasNone s.sizes st s.rules line m) (sym (k.0 ∙ h.same_class)) (h.least line k.1)
-    ];
-  }
-
-  -- a class that is spent too
-  pub one_more : IsClassSpent s st class → AreSpentBelow s st (class + 1)
-  one_more here = record { spent = λ n f l. by n f (compared n class l) }
-    where
-      compared : (n class : ℕ) → n < class + 1 → (n < class) ⊎ (n ≡ class)
-      compared n class l = grind arith
-
-      by : (n : ℕ) → 1 ≤ n → (n < class) ⊎ (n ≡ class) → IsClassSpent s st n
-      by n f (inl k) = below.spent n f k
-      by n f (inr e) = subst (IsClassSpent s st) (sym e) here
-
-  pub none_found : s.last < class → NothingApplies s st
-  none_found l = record { none = λ n line f k. (below.spent n f (omega arith)).none line }
 
 -- what is remembered of a line that has no candidate up to a class is true
 pub noted_remembered : (s : RunSetting) (st : State) (before after : List ℕ) (line class : ℕ) → AreRemembered before s st → IsNoted before after line (class + 1)
@@ -51,24 +23,6 @@ noted_remembered s st before after line class h noted none = record { none = λ 
     by : (other n : ℕ) → 1 ≤ n → (slice_index_or after other 0 ≡ slice_index_or before other 0) ⊎ ((other ≡ line) × (slice_index_or after other 0 ≡ class + 1)) → n < slice_index_or after other 0 → HasNone s.sizes st s.rules other n
     by other n first (inl e) l = h.none other n first (subst (λ (m : ℕ). n < m) e l)
     by other n first (inr e) l = subst (λ (k : ℕ). HasNone s.sizes st s.rules k n) (sym e.0) (none n first (less n (slice_index_or after other 0) e.1 l))
-
--- the classes below are spent, and the line has none at this one
-pub none_up_to : (s : RunSetting) (st : State) (line class : ℕ) → AreSpentBelow s st class → HasNone s.sizes st s.rules line class → (n : ℕ) → 1 ≤ n → n ≤ class → HasNone s.sizes st s.rules line n
-none_up_to s st line class below here n first l = by (compared n class l)
-  where
-    compared : (n class : ℕ) → n ≤ class → (n < class) ⊎ (n ≡ class)
-    compared n class l = grind arith
-
-    by : (n < class) ⊎ (n ≡ class) → HasNone s.sizes st s.rules line n
-    by (inl k) = (below.spent n first k).none line
-    by (inr e) = subst (λ (m : ℕ). HasNone s.sizes st s.rules line m) (sym e) here
-
--- no class is below the first
-pub nothing_below : (s : RunSetting) (st : State) → AreSpentBelow s st 1
-nothing_below s st = record { spent = λ n f l. absurd (clash n f l) }
-  where
-    clash : (n : ℕ) → 1 ≤ n → n < 1 → ⊥
-    clash n f l = omega arith
 
 -- what comes next in a state comes next in one with the same points and the same front
 pub same_next : (s : RunSetting) (st other : State) (a : Application) → AreSame st other → IsNext s st a → IsNext s other a
@@ -101,16 +55,4 @@ same_true s m st other same next h = record {
   remembered = same_remembered s m.least.items st other same h.remembered;
   covers = h.covers;
   reaching = same_reaching m s.sizes st other same next h.reaching;
-  passed = λ class. subst (λ (front : List (ℕ × ℕ × ℕ)). ArePassed front m.least.items class (slice_index_or m.first.items class 0)) same.front (h.passed class);
 }
-
--- the best of a line is the first of a class, where no line before it has any
-pub first_found : (s : RunSetting) (st : State) (line class : ℕ) (a : Application) → IsBest s.sizes st s.rules line class a → ((n : ℕ) → n < line → HasNone s.sizes st s.rules n class) → IsFirstOfClass s st class a
-first_found s st line class a b before =
-    let same_class : a.class ≡ class = ap (λ (x : Application). x.class) b.gives ∙ b.least.of.same_class in
-    let same_line : a.line ≡ line = ap (λ (x : Application). x.line) b.gives ∙ b.least.of.same_line in
-    record {
-      same_class = same_class;
-      best = subst (λ (n : ℕ). IsBest s.sizes st s.rules n a.class a) (sym same_line) (subst (λ (n : ℕ). IsBest s.sizes st s.rules line n a) (sym same_class) b);
-      least = λ n k. before n (subst (λ (m : ℕ). n < m) same_line k);
-    }

@@ -1,5 +1,5 @@
 -- What a run remembers stays true over an application, where what lies near its elements is forgotten.
-use Rattle.std.proofs.Common.{◌≡◌, ℕ, ◌<◌, ◌≤◌, ◌≤ℤ◌, ◌⊎◌, inl, inr, List, [], ◌∷◌, ◌++◌, length, map, slice_index_or, sym, ap, ◌∙◌, subst, arith, Option, None, Some, IfSome, ℤ}
+use Rattle.std.proofs.Common.{BTreeSet, max, ◌≡◌, ℕ, ◌<◌, ◌≤◌, ◌≤ℤ◌, ◌⊎◌, inl, inr, List, [], ◌∷◌, ◌++◌, length, map, slice_index_or, sym, ap, ◌∙◌, subst, arith, Option, None, Some, IfSome, ℤ}
 use Rattle.std.specs.List.{AllByRecursion, Contains}
 use Rattle.std.proofs.lemmas.List.Elements.{recursion_from_All}
 use Rattle.grid_geom.specs.declared.Bounds.{Bounds}
@@ -10,6 +10,7 @@ use Rattle.size_field.specs.Size.{SizeField, size_at}
 use Rattle.state_law.specs.Saved.{AreInBox}
 use Rattle.state_law.specs.State.{State, AreRising, IsListed, corners_of, glue_line, glued, next_after, next_after_all, number_sides, point_at}
 use Rattle.front_chain.specs.Front.{FrontState, IsFrontState, edges_of, state_of}
+use Rattle.state_law.proofs.LineNumbers.{glued_rising}
 use Rattle.admission.proofs.Order.{same_points}
 use Rattle.admission.specs.Admission.{glued_on}
 use Rattle.rule_match.specs.declared.application.Application.{Application}
@@ -19,14 +20,16 @@ use Rattle.rule_match.specs.Least.{HasNone, IsOf}
 use Rattle.rule_match.specs.Near.{IsCoveredBy, IsFarLine, IsReachAtMost}
 use Rattle.mesh_run.specs.declared.refusals.Refusals.{Refusals}
 use Rattle.mesh_run.specs.Reached.{IsReached, MayBeApplied}
-use Rattle.mesh_run.specs.Remembered.{ArePassed, AreTrue, DoesRemember, IsForgottenNear, IsInArea}
+use Rattle.mesh_run.specs.Remembered.{AreTrue, DoesRemember, IsForgottenNear, IsInArea}
+use Rattle.mesh_run.specs.Worklist.{AreToTry, AreTriedAgain, AreTriedFirst, DoesStay, IsToTry, IsTriedFirst, least_open}
+use Rattle.mesh_run.proofs.Tried.{still_first}
 use Rattle.mesh_run.specs.RunState.{RunParts, run_of, setting_by}
 use Rattle.mesh_run.specs.Steps.{RunSetting, IsNext, applied, with_points}
 use Rattle.mesh_run.proofs.GoesOn.{IsPushed, of_front, put_holds}
 use Rattle.mesh_run.proofs.HeldAreas.{Holds}
 use Rattle.mesh_run.proofs.Numbers.{point_kept}
 use Rattle.mesh_run.proofs.Searched.{same_true}
-use Rattle.mesh_run.proofs.StillNone.{Triple, IsOldOrNew, all_old, contained, elements_on, next_rises, still_none, stays_same}
+use Rattle.mesh_run.proofs.StillNone.{Triple, IsOldOrNew, all_old, below_next, contained, elements_on, next_rises, still_none, stays_same}
 
 -- corners that are in an area are in its box
 module _ (area : Bounds) (pts : List Point) where
@@ -56,6 +59,10 @@ next_rises_all front next (s ∷ ss) = let one = next_rises front next s in let 
 next_on : (w : State) (els : List (List ℕ)) → w.next ≤ (glued_on w els).next
 next_on w [] = omega arith
 next_on w (ns ∷ els) = let one = next_rises_all w.front w.next (number_sides ns) in let more = next_on (glued w ns) els in omega (arith, one, more)
+
+rising_on : (w : State) (els : List (List ℕ)) → AreRising w.front w.next → AreRising (glued_on w els).front (glued_on w els).next
+rising_on w [] r = r
+rising_on w (ns ∷ els) r = rising_on (glued w ns) els (glued_rising w ns r)
 
 -- a line reaches as far where its ends have the same places
 moved_reach : (sizes : SizeField) (points later : List Point) (n : ℕ) (steps : ℤ) (from to : ℕ) → point_at later from ≡ point_at points from → point_at later to ≡ point_at points to → IsReachAtMost sizes points n steps from to → IsReachAtMost sizes later n steps from to
@@ -140,20 +147,6 @@ module _ (s : RunSetting) (b : List Edge) (st : State) (a : Application) (before
   all_within None w = tt
   all_within (Some far) w = within_after far w
 
-  -- the lines below the numbers are old ones, of which nothing was forgotten
-  passed_after : (class : ℕ) → ArePassed (applied st a).front after.least.items class (slice_index_or after.first.items class 0)
-  passed_after class line c l = by (old_or_new line c)
-    where
-      less : (n m k : ℕ) → n < m → m ≤ k → n < k
-      less n m k a b = omega arith
-
-      low : line.0 < f.lowest
-      low = less line.0 (slice_index_or after.first.items class 0) f.lowest l (f.lowered.within class)
-
-      by : Contains st.front line ⊎ (st.next ≤ line.0) → class < slice_index_or after.least.items line.0 0
-      by (inl k) = subst (λ (v : ℕ). class < v) (sym (f.below line.0 low)) (h.passed class line k (less line.0 (slice_index_or after.first.items class 0) (slice_index_or before.first.items class 0) l (f.lowered.no_more class)))
-      by (inr k) = absurd (clash line.0 st.next (less line.0 f.lowest st.next low f.old) k)
-
   pub still_true : AreTrue after s (applied st a)
   still_true = record {
     remembered = record { none = none_after };
@@ -163,21 +156,63 @@ module _ (s : RunSetting) (b : List Edge) (st : State) (a : Application) (before
       within = subst (λ (n : ℕ). IfSome after.widest (Within (applied st a) n)) (sym f.reach)
           (subst (λ (o : Option Distance). IfSome o (Within (applied st a) before.reach)) (sym f.widest) (all_within before.widest h.reaching.within));
     };
-    passed = passed_after;
   }
     where
       below : (line next more : ℕ) → line < next → next ≤ more → line < more
       below line next more l k = omega arith
 
-pub remembers_after : (p : RunParts) (a : Application) (same after : FrontState) (applications : List Application) (before left : Refusals) → DoesRemember (run_of p) before
+  -- ---- each line is still to be tried
+  -- what is to be tried after the lines of which something was forgotten, and after the new lines, are put on
+  pub still_to_try : (was left now : Option (BTreeSet (ℕ × ℕ))) → IfSome was (λ work. AreToTry work st.front before.least.items s.last)
+      → AreTriedAgain (record { least = before.least.items; work = was }) (record { least = after.least.items; work = left }) → AreTriedFirst st.next (applied st a).next left now
+      → IfSome now (λ work. AreToTry work (applied st a).front after.least.items s.last)
+  still_to_try was left None to_try again new = tt
+  still_to_try was left (Some work) to_try again new = record { each = λ line c l. by line c l (old_or_new line c) }
+    where
+      at_first : (line : ℕ) → slice_index_or after.least.items line 0 ≡ 0 → IsToTry work (1, line) → IsToTry work (least_open after.least.items line, line)
+      at_first line e on = subst (λ (n : ℕ). IsToTry work (max 1 n, line)) (sym e) on
+
+      -- an old line of which nothing was forgotten
+      same : (o p : Option (BTreeSet (ℕ × ℕ))) → IfSome o (λ w. AreToTry w st.front before.least.items s.last) → DoesStay o p → DoesStay p (Some work) → (line : Triple) → Contains st.front line → least_open after.least.items line.0 ≤ s.last
+          → slice_index_or after.least.items line.0 0 ≡ slice_index_or before.least.items line.0 0 → IsToTry work (least_open after.least.items line.0, line.0)
+      same o None h k m line c l e = absurd m
+      same None (Some b) h k m line c l e = absurd k
+      same (Some w) (Some b) h k m line c l e =
+          let as_open : least_open after.least.items line.0 ≡ least_open before.least.items line.0 = ap (λ (n : ℕ). max 1 n) e in
+          let on = h.each line c (subst (λ (n : ℕ). n ≤ s.last) as_open l) in
+          subst (λ (n : ℕ). IsToTry work (n, line.0)) (sym as_open) (m (least_open before.least.items line.0, line.0) (k (least_open before.least.items line.0, line.0) on))
+
+      split : (n : ℕ) → (n ≡ 0) ⊎ (0 < n)
+      split n = grind arith
+
+      by : (line : Triple) → Contains (applied st a).front line → least_open after.least.items line.0 ≤ s.last → Contains st.front line ⊎ (st.next ≤ line.0) → IsToTry work (least_open after.least.items line.0, line.0)
+      by line c l (inl k) = here (again.again line.0) (split (slice_index_or after.least.items line.0 0))
+        where
+          here : (slice_index_or after.least.items line.0 0 ≡ slice_index_or before.least.items line.0 0) ⊎ IsTriedFirst left line.0 → (slice_index_or after.least.items line.0 0 ≡ 0) ⊎ (0 < slice_index_or after.least.items line.0 0) → IsToTry work (least_open after.least.items line.0, line.0)
+          here (inl e) z = same was left to_try again.stay new.stay line k l e
+          here (inr t) (inl z) = at_first line.0 z (still_first left (Some work) line.0 new.stay t)
+          here (inr t) (inr p) = same was left to_try again.stay new.stay line k l (f.kept.same line.0 p)
+      by line c l (inr k) = here (split (slice_index_or after.least.items line.0 0))
+        where
+          here : (slice_index_or after.least.items line.0 0 ≡ 0) ⊎ (0 < slice_index_or after.least.items line.0 0) → IsToTry work (least_open after.least.items line.0, line.0)
+          here (inl z) = at_first line.0 z (new.again line.0 k (below_next (applied st a).front (applied st a).next line (rising_on (with_points st a.made) a.elements rising) c))
+          here (inr p) = absurd (clash line.0 st.next (was_given line.0 p) k)
+
+pub remembers_after : (p : RunParts) (a : Application) (same after : FrontState) (applications : List Application) (before left : Refusals) (was kept now : Option (BTreeSet (ℕ × ℕ))) → DoesRemember (run_of p) before was
     → IsNext (setting_by (run_of p).basis) (run_of p).state a → IsFrontState same → MayBeApplied (state_of same) a → IsPushed p a same after applications
-    → IsForgottenNear p.sizes (state_of same) a before left → DoesRemember (run_of (record p { front = after; applications = applications })) left
-remembers_after p a same after applications before left h next front may pushed f =
+    → IsForgottenNear p.sizes (state_of same) a before left → AreTriedAgain (record { least = before.least.items; work = was }) (record { least = left.least.items; work = kept }) → AreTriedFirst same.next after.next kept now
+    → DoesRemember (run_of (record p { front = after; applications = applications })) left now
+remembers_after p a same after applications before left was kept now h next front may pushed f again new =
     let s = setting_by (run_of p).basis in
     let here = same_true s before (run_of p).state (state_of same) (record { points = sym pushed.equal.points; front = sym pushed.equal.lines }) pushed.equal.next h.remembered in
-    let later = still_true s (edges_of same) (state_of same) a before left (of_front same front) may front.rising here f in
+    let reached = of_front same front in
+    let later = still_true s (edges_of same) (state_of same) a before left reached may front.rising here f in
+    let on = subst (λ (lines : List Triple). IfSome was (λ work. AreToTry work lines before.least.items s.last)) (sym pushed.equal.lines) h.to_try in
+    let first = subst (λ (n : ℕ). AreTriedFirst same.next n kept now) pushed.put.next new in
     record {
       is_run = put_holds p a same after applications h.is_run next may pushed;
       remembered = same_true s left (applied (state_of same) a) (run_of (record p { front = after; applications = applications })).state
           (record { points = same_points (with_points (state_of same) a.made) a.elements ∙ sym pushed.put.points; front = sym pushed.put.lines }) pushed.put.next later;
+      to_try = subst (λ (lines : List Triple). IfSome now (λ work. AreToTry work lines left.least.items s.last)) (sym pushed.put.lines)
+          (still_to_try s (edges_of same) (state_of same) a before left reached may front.rising here f was kept now on again first);
     }

@@ -13,7 +13,8 @@ pub mod Runs
 -- Reached: what a run keeps of its state. RunState: a run of a domain while it goes on.
 pub mod Reached
 pub mod RunState
--- Remembered: refusals that a run remembers.
+-- Worklist: the classes and lines that are to be tried. Remembered: refusals that a run remembers.
+pub mod Worklist
 pub mod Remembered
 pub mod Sum
 -- Conform: no side is used twice, and no point hangs, in the states of all domains.

@@ -4,17 +4,18 @@
 --
 -- AreRemembered   what is remembered of each line is true
 -- AreReaching     and the reach of no remembered line goes further than the widest
--- ArePassed       front lines below a number were refused at a class
 -- AreTrue         all of these; IsEmpty, nothing is remembered
 -- IsInArea        a place lies in a closed box; IsWider, a box holds another one; IsWidenedBy, it goes so far beyond it
--- AreLookedAt     what is remembered after the lines near a box were looked at again
+-- AreLookedAt     what is remembered after lines were looked at again
+-- AreAround       numbers of the front lines near an area
 -- AreKept         what is remembered is as before, and only of lines whose reach is apart from an area
 -- IsForgottenNear what is remembered after forgetting near an application's elements
 -- IsNoted         one more refusal is remembered; AreSameRefusals, none is
--- AreSpentBelow   no line has a candidate at a class below one; setting_in, state_in, what is searched
--- DoesRemember    a run keeps its state, and what it remembers is true
+-- setting_in      what is searched; state_in, the state that is looked at
+-- DoesRemember    a run keeps its state, what it remembers is true, and its front lines are to be tried
 -- IsApartFrom     an application's elements lie in a box apart from another one
-use Rattle.std.specs.Prelude.{ℕ, ◌≡◌, ◌⊎◌, ◌≤◌, ◌<◌, ℤ, ◌+ℤ◌, ◌-ℤ◌, ◌≤ℤ◌, true, List, [], ◌++◌, map, slice_index_or, Option, None, Some, IfSome}
+use Rattle.std.specs.Prelude.{ℕ, ◌≡◌, ◌⊎◌, ◌≤◌, ◌<◌, ℤ, ◌+ℤ◌, ◌-ℤ◌, ◌≤ℤ◌, List, [], ◌++◌, length, map, slice_index_or, Option, None, Some, IfSome}
+use Rattle.std.specs.BTreeSet.{BTreeSet}
 use Rattle.std.specs.List.{All, AllByRecursion, Contains}
 use Rattle.grid_geom.specs.declared.Bounds.{Bounds}
 use Rattle.grid_geom.specs.declared.Point.{Point}
@@ -22,7 +23,7 @@ use Rattle.size_field.specs.Size.{SizeField}
 use Rattle.state_law.specs.Saved.{AreInBox}
 use Rattle.state_law.specs.State.{State, corners_of, point_at}
 use Rattle.rule_reader.specs.declared.rule.Rule.{Rule}
-use Rattle.front_chain.specs.Front.{FrontState, state_of, is_near}
+use Rattle.front_chain.specs.Front.{FrontState, AreNear, state_of}
 use Rattle.rule_match.specs.declared.application.Application.{Application}
 use Rattle.rule_match.specs.declared.out_of_reach.Distance.{Distance}
 use Rattle.rule_match.specs.Least.{HasNone}
@@ -30,7 +31,8 @@ use Rattle.rule_match.specs.Near.{AreBoxesApart, IsBox, IsCoveredBy, IsFarLine, 
 use Rattle.mesh_run.specs.declared.refusals.Refusals.{Refusals}
 use Rattle.mesh_run.specs.declared.search.Scene.{Scene}
 use Rattle.mesh_run.specs.Steps.{RunSetting}
-use Rattle.mesh_run.specs.RunState.{RunState, IsRunState, IsClassSpent, setting_by}
+use Rattle.mesh_run.specs.Worklist.{Lessened, AreToTry, AreTriedAgain}
+use Rattle.mesh_run.specs.RunState.{RunState, IsRunState, setting_by}
 
 -- ---- what is remembered
 -- below the class that stands at its number a line has no candidate
@@ -45,23 +47,15 @@ pub record AreReaching (m : Refusals) (sizes : SizeField) (st : State) : Type 0 
       → 0 < slice_index_or m.least.items line.0 0
       → IsReachAtMost sizes st.points m.reach far.steps line.1 line.2)
 
--- it is remembered of each front line below the number that it has no candidate at the class
-abbrev pub ArePassed : List (ℕ × ℕ × ℕ) → List ℕ → ℕ → ℕ → Type 0
-ArePassed front refused class number = (line : ℕ × ℕ × ℕ) → Contains front line
-    → line.0 < number → class < slice_index_or refused line.0 0
-
 -- what is remembered is true, and the reach covers the rules
 pub record AreTrue (m : Refusals) (s : RunSetting) (st : State) : Type 0 where
   pub remembered : AreRemembered m.least.items s st
   pub covers : AllByRecursion (IsCoveredBy m.reach) s.rules
   pub reaching : AreReaching m s.sizes st
-  pub passed : (class : ℕ) →
-      ArePassed st.front m.least.items class (slice_index_or m.first.items class 0)
 
 -- nothing is remembered
 pub record IsEmpty (rules : List Rule) (m : Refusals) : Type 0 where
   pub nothing : m.least.items ≡ []
-  pub first : m.first.items ≡ []
   pub covers : AllByRecursion (IsCoveredBy m.reach) rules
 
 -- as much is remembered of each line
@@ -72,10 +66,6 @@ pub record AreSameRefusals (before after : List ℕ) : Type 0 where
 pub record IsNoted (before after : List ℕ) (line least : ℕ) : Type 0 where
   pub each : (other : ℕ) → (slice_index_or after other 0 ≡ slice_index_or before other 0)
       ⊎ ((other ≡ line) × (slice_index_or after other 0 ≡ least))
-
--- no less is remembered of any line
-pub record AreNoFewer (before after : List ℕ) : Type 0 where
-  pub each : (line : ℕ) → slice_index_or before line 0 ≤ slice_index_or after line 0
 
 -- the distance is known, and the other one is no less
 abbrev pub IsNoFarther : Option Distance → Distance → Type 0
@@ -119,36 +109,27 @@ IsAroundBy area None around = ⊥
 IsAroundBy area (Some far) around = IsWidenedBy area far.steps around
 
 -- ---- what is forgotten
--- a table of refusals, and a number below which nothing was forgotten
-pub record Lessened : Type 0 where
-  pub least : List ℕ
-  pub lowest : ℕ
-
--- what is remembered of any line is as before or nothing, below the lowest number it is as before; and where something still is of this
--- line, its reach is apart from the area
+-- what is remembered of any line is as before or nothing; and where something still is of this line, its reach is apart from the area
 pub record IsLookedAt (sizes : SizeField) (f : FrontState) (n : ℕ) (area : Bounds) (line : ℕ) (before after : Lessened) : Type 0 where
   pub same : (other : ℕ) → 0 < slice_index_or after.least other 0
       → slice_index_or after.least other 0 ≡ slice_index_or before.least other 0
   pub far : 0 < slice_index_or after.least line 0
       → IsFarLine sizes (state_of f) n area.lo area.hi line
-  pub lower : after.lowest ≤ before.lowest
-  pub below : (other : ℕ) → other < after.lowest
-      → slice_index_or after.least other 0 ≡ slice_index_or before.least other 0
+  pub again : AreTriedAgain before after
 
--- so it is of each line near a box
-pub record AreLookedAt (sizes : SizeField) (f : FrontState) (n : ℕ) (area around : Bounds) (before : List ℕ) (after : Lessened) : Type 0 where
+-- so it is of each line with one of these numbers
+pub record AreLookedAt (sizes : SizeField) (f : FrontState) (n : ℕ) (area : Bounds) (lines : List ℕ) (before after : Lessened) : Type 0 where
   pub same : (other : ℕ) → 0 < slice_index_or after.least other 0
-      → slice_index_or after.least other 0 ≡ slice_index_or before other 0
-  pub far : (line : ℕ) → is_near f around line ≡ true → 0 < slice_index_or after.least line 0
-      → IsFarLine sizes (state_of f) n area.lo area.hi line
-  pub lower : after.lowest ≤ f.next
-  pub below : (other : ℕ) → other < after.lowest
-      → slice_index_or after.least other 0 ≡ slice_index_or before other 0
+      → slice_index_or after.least other 0 ≡ slice_index_or before.least other 0
+  pub far : (i : ℕ) → i < length lines → 0 < slice_index_or after.least (slice_index_or lines i 0) 0
+      → IsFarLine sizes (state_of f) n area.lo area.hi (slice_index_or lines i 0)
+  pub again : AreTriedAgain before after
 
--- no number is greater than before, nor than this one
-pub record AreLowered (number : ℕ) (before after : List ℕ) : Type 0 where
-  pub no_more : (class : ℕ) → slice_index_or after class 0 ≤ slice_index_or before class 0
-  pub within : (class : ℕ) → slice_index_or after class 0 ≤ number
+-- these are the numbers of the front lines near a box that goes so far beyond the area
+pub record AreAround (f : FrontState) (area : Bounds) (far : Option Distance) (lines : List ℕ) : Type 0 where
+  pub around : Bounds
+  pub wide : IsAroundBy area far around
+  pub near : AreNear f around lines
 
 -- what is remembered of any line is as before or nothing; and the reach of each front line of which something is remembered is apart from the area
 pub record AreKept (sizes : SizeField) (st : State) (n : ℕ) (area : Bounds) (before after : List ℕ) : Type 0 where
@@ -162,12 +143,6 @@ pub record IsForgottenNear (sizes : SizeField) (st : State) (a : Application) (b
   pub area : Bounds
   pub holds : All (λ ns. All (λ n. IsInArea area (point_at (st.points ++ a.made) n)) ns) a.elements
   pub kept : AreKept sizes st before.reach area before.least.items after.least.items
-  -- below a number nothing is forgotten, and no class's passed lines go beyond it, nor beyond before
-  pub lowest : ℕ
-  pub old : lowest ≤ st.next
-  pub below : (line : ℕ) → line < lowest
-      → slice_index_or after.least.items line 0 ≡ slice_index_or before.least.items line 0
-  pub lowered : AreLowered lowest before.first.items after.first.items
   pub reach : after.reach ≡ before.reach
   pub widest : after.widest ≡ before.widest
 
@@ -179,11 +154,9 @@ setting_in s = record { sizes = s.sizes.now; rules = s.rules.now; last = s.last 
 abbrev pub state_in : Scene → State
 state_in s = state_of s.front.now
 
--- the classes below this one have no candidate
-pub record AreSpentBelow (s : RunSetting) (st : State) (class : ℕ) : Type 0 where
-  pub spent : (n : ℕ) → 1 ≤ n → n < class → IsClassSpent s st n
-
--- the run's state is that of the definition, and what it remembers is true
-pub record DoesRemember (r : RunState) (m : Refusals) : Type 0 where
+-- the run's state is that of the definition, what it remembers is true, and each front line is to be tried, where that is known
+pub record DoesRemember (r : RunState) (m : Refusals) (known : Option (BTreeSet (ℕ × ℕ))) : Type 0 where
   pub is_run : IsRunState r
   pub remembered : AreTrue m (setting_by r.basis) r.state
+  pub to_try : IfSome known
+      (λ work. AreToTry work r.state.front m.least.items r.basis.options.last)

@@ -4,11 +4,10 @@
 -- RunState     the basis, the applications so far, and the state that they have come to
 -- RunParts     what a run holds; run_of, the run that it makes
 -- IsRunState   the state is that of the definition after these applications, each of which was the next one
--- IsFirstOfClass, IsClassSpent   what the search knows of one class
 -- IsStepped    what a step makes of a run, by what it says; DoesTakeArea, that it takes from the front's area
 -- GoesOn       what steps one after another make of a run; IsEndOfRun, how it ends
 -- opened_run   the run at its opening; domain_run, what is kept of it at its end
-use Rattle.std.specs.Prelude.{ℕ, ◌≡◌, ◌≢◌, ◌⊎◌, ◌+◌, ◌<◌, ◌≤◌, List, [], ◌∷◌, ◌++◌, length, take, Option, Some, None}
+use Rattle.std.specs.Prelude.{ℕ, ◌≡◌, ◌≢◌, ◌⊎◌, ◌+◌, ◌<◌, ◌≤◌, List, [], ◌∷◌, ◌++◌, length, take}
 use Rattle.std.specs.List.{All}
 use Rattle.grid_geom.specs.Area.{shoelace}
 use Rattle.rule_reader.specs.declared.rule.Rule.{Rule}
@@ -17,8 +16,6 @@ use Rattle.size_field.specs.Size.{SizeField, AreLimits}
 use Rattle.state_law.specs.State.{State}
 use Rattle.front_chain.specs.Front.{FrontState, or_zero}
 use Rattle.rule_match.specs.declared.application.Application.{Application}
-use Rattle.rule_match.specs.Least.{HasNone}
-use Rattle.rule_match.specs.Best.{IsBest}
 use Rattle.mesh_run.specs.declared.Options.{Options}
 use Rattle.mesh_run.specs.Boundary.{IsNumberTo}
 use Rattle.mesh_run.specs.declared.domain_run.DomainRun.{DomainRun}
@@ -117,22 +114,6 @@ pub record IsRunState (r : RunState) : Type 0 where
   -- no fewer points than at the opening, and the elements name them
   pub grows : r.basis.opened ≤ length r.state.points
   pub names : DoName (length r.state.points) r.applications
-
--- ---- the search for the next application
--- the number is before the other one; before none where every number is
-abbrev pub DoesPrecede : ℕ → Option ℕ → Type 0
-DoesPrecede n None = Unit {0}
-DoesPrecede n (Some m) = n < m
-
--- at the class the application is that of the least candidate: of the least line
-pub record IsFirstOfClass (s : RunSetting) (st : State) (class : ℕ) (a : Application) : Type 0 where
-  pub same_class : a.class ≡ class
-  pub best : IsBest s.sizes st s.rules a.line a.class a
-  pub least : (line : ℕ) → line < a.line → HasNone s.sizes st s.rules line class
-
--- no line has a candidate at the class
-pub record IsClassSpent (s : RunSetting) (st : State) (class : ℕ) : Type 0 where
-  pub none : (line : ℕ) → HasNone s.sizes st s.rules line class
 
 -- ---- steps
 -- the run after one more application

@@ -8,8 +8,10 @@ ghost use Rattle.front_chain.specs.Front.{spare_elements, state_of};
 ghost use Rattle.admission.specs.Admission.{glued_on, MayFollow};
 ghost use Rattle.mesh_run.specs.Reached.{MayBeApplied};
 ghost use Rattle.mesh_run.specs.Steps.{applied};
+ghost use Rattle.mesh_run.specs.Worklist.{AreTriedFirst};
 
 use super::Application;
+use super::worklist::{Worklist, try_first};
 use front_chain::Front;
 use grid_geom::{Element, Point};
 use list_of::List;
@@ -46,17 +48,21 @@ fn glue_elements(front: &mut Front, elements: &[Element])
     }
 }
 
-/// Lists the new points of an application and glues its elements to the front, in their order.
-pub fn put(front: &mut Front, application: &Application)
+/// Lists the new points of an application and glues its elements to the front, in their order. Its new
+/// lines are to be tried at the first class.
+pub fn put(front: &mut Front, work: &mut Option<Worklist>, application: &Application)
     requires spare_points { length application.now.made ≤ front.old.spare_points }
     requires spare_elements { length application.now.elements ≤ spare_elements front.old }
     requires may { MayBeApplied (state_of front.old) application.now }
     ensures points { front.new.points ≡ front.old.points ++ application.now.made }
     ensures lines { front.new.lines ≡ (applied (state_of front.old) application.now).front }
     ensures next { front.new.next ≡ (applied (state_of front.old) application.now).next }
+    ensures tried { AreTriedFirst front.old.next front.new.next work.old work.new }
 {
+    let first = front.next_number();
     list_points(front, application.made.as_slice());
     glue_elements(front, application.elements.as_slice());
+    try_first(work, first, front.next_number());
 }
 
 /// The elements, copied.

@@ -9,9 +9,11 @@
 //! 5. A `Run` is a domain's state after some applications, each of which was the next one: that of the
 //!    least class, then of the least line, then of the least candidate on it. One more takes at least 1
 //!    from the front's doubled area, so a run ends.
-//! 6. It ends done, where no front is left; else stuck, where nothing applies; else stopped, where as
+//! 6. A run remembers up to which class a line has no candidate, and lists by class and line what is to be
+//!    tried: so nothing is tried again that no application has touched since.
+//! 7. A run ends done, where no front is left; else stuck, where nothing applies; else stopped, where as
 //!    many applications were made as the domain may make.
-//! 7. What a run, a whole run and its mesh are is given exactly; the definitions stand in specs/.
+//! 8. What a run, a whole run and its mesh are is given exactly; the definitions stand in specs/.
 #![tactic(auto)]
 
 mod all;
@@ -33,6 +35,7 @@ mod search;
 mod stepped;
 mod touched;
 mod whole;
+mod worklist;
 
 pub use all::run_all;
 pub use application::{Application, Applications};

@@ -1,8 +1,8 @@
 // What a run remembers of lines that have no candidate.
-ghost use Rattle.std.specs.Prelude.{ℕ, ◌≡◌, ◌<◌, ◌≤◌, length, slice_index_or, IsSome, IfSome, OnOk};
+ghost use Rattle.std.specs.Prelude.{ℕ, ◌≡◌, ◌+◌, ◌<◌, ◌≤◌, length, slice_index_or, IsSome, IfSome, OnOk};
 ghost use Rattle.front_chain.specs.Front.{line_at};
 ghost use Rattle.rule_match.specs.Least.{HasNone};
-ghost use Rattle.mesh_run.specs.Remembered.{AreNoFewer, ArePassed, AreSameRefusals, AreTrue, IsEmpty, IsNoted, IsNoFarther, setting_in, state_in};
+ghost use Rattle.mesh_run.specs.Remembered.{AreSameRefusals, AreTrue, IsEmpty, IsNoted, IsNoFarther, setting_in, state_in};
 
 use super::search::Scene;
 use rule_maps::RuleSet;
@@ -14,8 +14,6 @@ use std::alloc::{AllocError as OutOfMemory, Global};
 pub struct Refusals {
     /// By line number, the least class at which the line may have a candidate, 0 where it isn't known.
     pub least: Vec<u64>,
-    /// By class, a number below which each front line is remembered to have no candidate at the class.
-    pub first: Vec<u64>,
     /// A reach that covers the rules.
     pub reach: u64,
     /// How far the reach of a remembered line goes beyond its start at most, if that is known.
@@ -28,7 +26,6 @@ pub fn no_refusals(alloc: Global, rules: &RuleSet<'_>) -> Refusals
 {
     Refusals {
         least: Vec::new(alloc),
-        first: Vec::new(alloc),
         reach: greatest_reach(rules),
         widest: Some(Distance { steps: 0 }),
     }
@@ -98,27 +95,12 @@ pub fn remember(
         (state_in scene.now) scene.now.rules.now line n }
     requires remembered { AreTrue refusals.old (setting_in scene.now) (state_in scene.now) }
     ensures remembered { AreTrue refusals.new (setting_in scene.now) (state_in scene.now) }
-    ensures noted { OnOk result (class < slice_index_or refusals.new.least.items line 0) }
-    ensures no_fewer { AreNoFewer refusals.old.least.items refusals.new.least.items }
+    ensures noted { IsNoted refusals.old.least.items refusals.new.least.items line (class + 1) }
+    ensures there { OnOk result (slice_index_or refusals.new.least.items line 0 ≡ class + 1) }
 {
     let front = scene.front;
     let _lines = front.lines();
     let far = reach_beyond(front, scene.sizes, line, refusals.reach);
     refusals.widest = farther(&refusals.widest, &far);
     note(&mut refusals.least, line, class as u64 + 1)
-}
-
-/// Remembers that each front line below this number is remembered to have no candidate at the class.
-pub fn pass(
-    scene: &Scene<'_, '_>,
-    refusals: &mut Refusals,
-    class: u32,
-    number: u64,
-) -> Result<(), OutOfMemory>
-    requires passed { ArePassed scene.now.front.now.lines refusals.old.least.items class number }
-    requires remembered { AreTrue refusals.old (setting_in scene.now) (state_in scene.now) }
-    ensures remembered { AreTrue refusals.new (setting_in scene.now) (state_in scene.now) }
-{
-    let _front = scene.front;
-    note(&mut refusals.first, class as u64, number)
 }

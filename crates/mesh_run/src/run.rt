@@ -12,8 +12,9 @@ use super::ground::Ground;
 use super::left::{points_of, rows_of};
 use super::opening::{number_mesh, opening_of};
 use super::refusals::{Refusals, no_refusals};
-use super::search::{Scene, next_in};
+use super::search::{Scene, find_next};
 use super::touched::forget_near;
+use super::worklist::Worklist;
 use super::{Application, Applications, DomainRun, End, FrontRows, OpeningLines, Options, Stepped};
 use front_chain::Front;
 use geom_check::Geometry;
@@ -39,6 +40,8 @@ pub struct Run<'a> {
     front: Front,
     applications: Vec<Application>,
     refusals: Refusals,
+    // what is to be tried, where that is known
+    work: Option<Worklist>,
 }
 
 impl<'a> Model for Run<'a> {
@@ -67,7 +70,7 @@ impl<'a> Model for Run<'a> {
       lines = r.lines;
       front = r.front;
       applications = r.applications.items;
-    })) r.refusals };
+    })) r.refusals r.work };
 }
 
 impl<'a> Run<'a> {
@@ -112,6 +115,7 @@ impl<'a> Run<'a> {
             front,
             applications: Vec::new(alloc),
             refusals: no_refusals(alloc, ground.rules),
+            work: None,
         })
     }
 
@@ -163,11 +167,11 @@ impl<'a> Run<'a> {
             rules: self.rules,
             last: self.options.last,
         };
-        next_in(alloc, &scene, &mut self.refusals, steps)
+        find_next(alloc, &scene, &mut self.refusals, &mut self.work, steps)
     }
 
-    /// Makes the application that comes next, and answers a copy of it. All memory is taken before the
-    /// run changes.
+    /// Makes the application that comes next, and answers a copy of it. All memory that it
+    /// can't do without is taken before the run changes.
     fn apply(&mut self, alloc: Global, application: Application) -> Result<Application, OutOfMemory>
         requires next { IsNext (setting_by self.old.basis) self.old.state application }
         ensures applied { OnOk result (self.new ≡ run_after self.old application) }
@@ -183,8 +187,15 @@ impl<'a> Run<'a> {
         // the front is as a front is, and the rule one that a reader gives: so the application may be put on it
         let _lines = self.front.lines();
         let _rule = self.rules.get(application.rule).rule();
-        forget_near(&mut self.refusals, &self.front, &self.sizes, &application);
-        put(&mut self.front, &application);
+        forget_near(
+            alloc,
+            &mut self.refusals,
+            &mut self.work,
+            &self.front,
+            &self.sizes,
+            &application,
+        );
+        put(&mut self.front, &mut self.work, &application);
         self.applications.push_reserved(application);
         Ok(copy)
     }

@@ -1,13 +1,12 @@
-// The search for the application that comes next, by classes and lines.
-ghost use Rattle.std.specs.Prelude.{◌<◌, ◌≤◌, slice_index_or, IsSome, IfOk, IfSome, IfNone};
-ghost use Rattle.front_chain.specs.Front.{line_at};
-ghost use Rattle.rule_match.specs.Best.{IsBest};
+// The search for the application that comes next, along the worklist.
+ghost use Rattle.std.specs.Prelude.{◌+◌, ◌-◌, ◌<◌, ◌≤◌, IfOk, IfSome, IfNone, OnOk};
 ghost use Rattle.mesh_run.specs.Steps.{IsNext, NothingApplies};
-ghost use Rattle.mesh_run.specs.RunState.{IsFirstOfClass, IsClassSpent};
-ghost use Rattle.mesh_run.specs.Remembered.{AreNoFewer, AreTrue, AreSpentBelow, setting_in, state_in};
+ghost use Rattle.mesh_run.specs.Remembered.{AreTrue, setting_in, state_in};
+ghost use Rattle.mesh_run.specs.Worklist.{AreRefusedBefore, AreToTry, AreToTryBut, IsOpenTurn, tries_left};
 
 use super::Application;
-use super::refusals::{Refusals, noted_at, pass, remember};
+use super::refusals::{Refusals, remember};
+use super::worklist::{Worklist, is_open, move_on, take_first, worklist_from};
 use front_chain::Front;
 use rule_maps::RuleSet;
 use rule_match::best;
@@ -26,94 +25,102 @@ pub struct Scene<'f, 'a> {
     pub last: u32,
 }
 
-/// The application of the least candidate of a line at a class. That there is none is remembered, and
-/// isn't searched for again.
-fn search_line<L: Ledger>(
+/// The application of the least candidate of a turn's line at its class, and then the turn is put on the
+/// worklist again. That there is none is remembered, and the line's turn is then at the next class.
+fn try_turn<L: Ledger>(
     alloc: Global,
     scene: &Scene<'_, '_>,
     refusals: &mut Refusals,
-    class: u32,
-    line: u64,
+    work: &mut Worklist,
+    turn: (u32, u64),
     steps: &mut Steps<L>,
 ) -> Result<Option<Application>, OutOfMemory>
-    requires on_front { IsSome (line_at scene.now.front.now.lines line) }
-    requires first_class { 1 ≤ class }
-    requires last_class { class ≤ 16 }
-    requires below { AreSpentBelow (setting_in scene.now) (state_in scene.now) class }
+    requires last_class { scene.now.last ≤ 16 }
+    requires open { IsOpenTurn scene.now.front.now.lines refusals.old.least.items
+        scene.now.last turn }
+    requires before { AreRefusedBefore (setting_in scene.now) (state_in scene.now) turn }
     requires remembered { AreTrue refusals.old (setting_in scene.now) (state_in scene.now) }
+    requires to_try { AreToTryBut turn work.old scene.now.front.now.lines
+        refusals.old.least.items scene.now.last }
     ensures remembered { AreTrue refusals.new (setting_in scene.now) (state_in scene.now) }
-    ensures least { IfOk result (λ found. IfSome found
-        (IsBest scene.now.sizes.now (state_in scene.now) scene.now.rules.now line class)) }
-    ensures noted { IfOk result (λ found. IfNone found
-        (class < slice_index_or refusals.new.least.items line 0)) }
-    ensures no_fewer { AreNoFewer refusals.old.least.items refusals.new.least.items }
+    ensures to_try { OnOk result (AreToTry work.new scene.now.front.now.lines
+        refusals.new.least.items scene.now.last) }
+    ensures next { IfOk result (λ found. IfSome found
+        (IsNext (setting_in scene.now) (state_in scene.now))) }
+    ensures fewer { IfOk result (λ found. IfNone found (tries_left scene.now.last work.new.keys
+        < 1 + (scene.now.last - turn.0) + tries_left scene.now.last work.old.keys)) }
 {
-    if (class as u64) < noted_at(refusals.least.as_slice(), line) {
-        return Ok(None);
-    }
+    let (class, line) = turn;
     let (front, sizes) = (scene.front, scene.sizes);
     let found = best(alloc, front, sizes, scene.rules, line, class, steps)?;
     if found.is_some() {
+        work.insert(turn)?;
         return Ok(found);
     }
     remember(scene, refusals, class, line)?;
+    move_on(work, turn, scene.last)?;
     Ok(None)
 }
 
-/// The application of the least candidate at a class: that of the least line that has one.
-fn best_of_class<L: Ledger>(
+/// The application that comes next: that of the first turn on the worklist at which there is one. Turns
+/// that aren't open any more are dropped.
+///
+/// Errors: want of memory, and then the worklist isn't one any more.
+fn next_in<L: Ledger>(
     alloc: Global,
     scene: &Scene<'_, '_>,
     refusals: &mut Refusals,
-    class: u32,
-    steps: &mut Steps<L>,
-) -> Result<Option<Application>, OutOfMemory>
-    requires first_class { 1 ≤ class }
-    requires last_class { class ≤ 16 }
-    requires below { AreSpentBelow (setting_in scene.now) (state_in scene.now) class }
-    requires remembered { AreTrue refusals.old (setting_in scene.now) (state_in scene.now) }
-    ensures remembered { AreTrue refusals.new (setting_in scene.now) (state_in scene.now) }
-    ensures least { IfOk result (λ found. IfSome found
-        (IsFirstOfClass (setting_in scene.now) (state_in scene.now) class)) }
-    ensures none { IfOk result (λ found. IfNone found
-        (IsClassSpent (setting_in scene.now) (state_in scene.now) class)) }
-{
-    let front = scene.front;
-    let _lines = front.lines();
-    let passed = noted_at(refusals.first.as_slice(), class as u64);
-    let mut next = front.next_line(passed.saturating_sub(1));
-    while let Some(line) = next {
-        let found = search_line(alloc, scene, refusals, class, line, steps)?;
-        if found.is_some() {
-            pass(scene, refusals, class, line)?;
-            return Ok(found);
-        }
-        next = front.next_line(line);
-    }
-    pass(scene, refusals, class, front.next_number())?;
-    Ok(None)
-}
-
-/// The application that comes next: that of the least class at which there is one.
-pub fn next_in<L: Ledger>(
-    alloc: Global,
-    scene: &Scene<'_, '_>,
-    refusals: &mut Refusals,
+    work: &mut Worklist,
     steps: &mut Steps<L>,
 ) -> Result<Option<Application>, OutOfMemory>
     requires last_class { scene.now.last ≤ 16 }
     requires remembered { AreTrue refusals.old (setting_in scene.now) (state_in scene.now) }
+    requires to_try { AreToTry work.old scene.now.front.now.lines refusals.old.least.items
+        scene.now.last }
     ensures remembered { AreTrue refusals.new (setting_in scene.now) (state_in scene.now) }
+    ensures to_try { OnOk result (AreToTry work.new scene.now.front.now.lines
+        refusals.new.least.items scene.now.last) }
     ensures next { IfOk result (λ found. IfSome found
         (IsNext (setting_in scene.now) (state_in scene.now))) }
     ensures none { IfOk result (λ found. IfNone found
         (NothingApplies (setting_in scene.now) (state_in scene.now))) }
 {
-    for class in 1..scene.last + 1 {
-        let found = best_of_class(alloc, scene, refusals, class, steps)?;
-        if found.is_some() {
-            return Ok(found);
+    let _lines = scene.front.lines();
+    while let Some(turn) = take_first(work) {
+        if is_open(scene, refusals, turn) {
+            let found = try_turn(alloc, scene, refusals, work, turn, steps)?;
+            if found.is_some() {
+                return Ok(found);
+            }
         }
     }
     Ok(None)
+}
+
+/// The application that comes next. Where it isn't known what is to be tried, this is found first.
+///
+/// Errors: want of memory, and then it isn't known any more what is to be tried.
+pub fn find_next<L: Ledger>(
+    alloc: Global,
+    scene: &Scene<'_, '_>,
+    refusals: &mut Refusals,
+    known: &mut Option<Worklist>,
+    steps: &mut Steps<L>,
+) -> Result<Option<Application>, OutOfMemory>
+    requires last_class { scene.now.last ≤ 16 }
+    requires remembered { AreTrue refusals.old (setting_in scene.now) (state_in scene.now) }
+    requires to_try { IfSome known.old (λ work. AreToTry work scene.now.front.now.lines
+        refusals.old.least.items scene.now.last) }
+    ensures remembered { AreTrue refusals.new (setting_in scene.now) (state_in scene.now) }
+    ensures to_try { IfSome known.new (λ work. AreToTry work scene.now.front.now.lines
+        refusals.new.least.items scene.now.last) }
+    ensures next { IfOk result (λ found. IfSome found
+        (IsNext (setting_in scene.now) (state_in scene.now))) }
+    ensures none { IfOk result (λ found. IfNone found
+        (NothingApplies (setting_in scene.now) (state_in scene.now))) }
+{
+    let mut work = worklist_from(alloc, scene, refusals, known.take())?;
+    let found = next_in(alloc, scene, refusals, &mut work, steps)?;
+    *known = Some(work);
+    Ok(found)
 }

@@ -3,14 +3,17 @@ ghost use Rattle.std.specs.Prelude.{◌≡◌, ◌<◌, ◌≤ℤ◌, ◌++◌, 
 ghost use Rattle.std.specs.List.{AllByRecursion};
 ghost use Rattle.state_law.specs.State.{IsListed, point_at};
 ghost use Rattle.front_chain.specs.Front.{state_of};
-ghost use Rattle.mesh_run.specs.Remembered.{AreLookedAt, AreLowered, AreReaching, IsAroundBy, IsForgottenNear, IsInArea, IsLookedAt, IsWidenedBy, IsWider};
+ghost use Rattle.mesh_run.specs.Worklist.{AreTriedAgain};
+ghost use Rattle.mesh_run.specs.Remembered.{AreAround, AreLookedAt, AreReaching, IsAroundBy, IsForgottenNear, IsInArea, IsLookedAt, IsWidenedBy, IsWider};
 
 use super::Application;
 use super::refusals::{Refusals, noted_at};
+use super::worklist::{Worklist, try_again};
 use front_chain::Front;
 use grid_geom::{Bounds, Element, GRID, Point};
 use rule_match::{Distance, is_out_of_reach};
 use size_field::Sizes;
+use std::alloc::Global;
 
 /// The lesser of two coordinates.
 fn lesser(a: &i64, b: &i64) -> i64
@@ -86,11 +89,10 @@ pub fn area_of(front: &Front, made: &[Point], elements: &[Element]) -> Bounds
     area
 }
 
-/// Forgets what is remembered of the line, unless its reach is apart from the area, and lowers the number
-/// below which nothing was forgotten.
+/// Forgets what is remembered of the line, unless its reach is apart from the area, and has it tried again.
 fn look_again(
     least: &mut Vec<u64>,
-    lowest: &mut u64,
+    work: &mut Option<Worklist>,
     front: &Front,
     sizes: &Sizes,
     line: u64,
@@ -98,8 +100,8 @@ fn look_again(
     area: &Bounds,
 )
     ensures { IsLookedAt sizes.now front.now reach area.now line
-        (record { least = least.old.items; lowest = lowest.old })
-        (record { least = least.new.items; lowest = lowest.new }) }
+        (record { least = least.old.items; work = work.old })
+        (record { least = least.new.items; work = work.new }) }
 {
     if noted_at(least.as_slice(), line) == 0 {
         return;
@@ -108,38 +110,25 @@ fn look_again(
         return;
     }
     least[line as usize] = 0;
-    *lowest = line.min(*lowest);
+    try_again(work, line);
 }
 
-/// Forgets what is remembered of each line whose box meets the box `around`, unless the line's reach is
-/// apart from the area. Answers a number below which nothing was forgotten.
-fn forget(
+/// Looks again at the front lines with these numbers.
+fn look_at_all(
     least: &mut Vec<u64>,
+    work: &mut Option<Worklist>,
     front: &Front,
     sizes: &Sizes,
+    lines: &[u64],
     reach: u64,
     area: &Bounds,
-    around: &Bounds,
-) -> u64
-    ensures { AreLookedAt sizes.now front.now reach area.now around.now
-        least.old.items (record { least = least.new.items; lowest = result }) }
+)
+    ensures { AreLookedAt sizes.now front.now reach area.now lines.now
+        (record { least = least.old.items; work = work.old })
+        (record { least = least.new.items; work = work.new }) }
 {
-    let _lines = front.lines();
-    let mut lowest = front.next_number();
-    let mut at = front.first_near(around);
-    while let Some(here) = at {
-        look_again(least, &mut lowest, front, sizes, here.line, reach, area);
-        at = front.next_near(around, &here);
-    }
-    lowest
-}
-
-/// Lowers each number of the table to this one at most.
-fn lower(first: &mut Vec<u64>, most: u64)
-    ensures { AreLowered most first.old.items first.new.items }
-{
-    for class in 0..first.len() {
-        first[class] = first[class].min(most);
+    for line in lines {
+        look_again(least, work, front, sizes, *line, reach, area);
     }
 }
 
@@ -168,28 +157,61 @@ fn around_of(area: &Bounds, widest: &Option<Distance>) -> Option<Bounds>
     }
 }
 
-/// Forgets what is remembered of each line whose reach meets the box of the application's elements. Only
-/// lines near it are looked at.
-pub fn forget_near(refusals: &mut Refusals, front: &Front, sizes: &Sizes, application: &Application)
+/// The numbers of the front lines among which is each remembered one whose reach meets the area, if a box
+/// round these is known and memory suffices.
+fn lines_around(
+    alloc: Global,
+    front: &Front,
+    area: &Bounds,
+    widest: &Option<Distance>,
+) -> Option<Vec<u64>>
+    ensures { IfSome result (λ lines. AreAround front.now area.now widest.now lines.items) }
+{
+    let around = around_of(area, widest)?;
+    front.near_lines(alloc, &around).ok()
+}
+
+/// Forgets what is remembered of each line whose reach meets the box of the application's elements, and
+/// has these lines tried again. Only lines near it are looked at; where these aren't known, or there is no
+/// memory for their numbers, all is forgotten.
+pub fn forget_near(
+    alloc: Global,
+    refusals: &mut Refusals,
+    work: &mut Option<Worklist>,
+    front: &Front,
+    sizes: &Sizes,
+    application: &Application,
+)
     requires listed { AllByRecursion (λ ns. AllByRecursion
         (IsListed (length (front.now.points ++ application.now.made))) ns)
         application.now.elements }
     requires reaching { AreReaching refusals.old sizes.now (state_of front.now) }
-    ensures { IsForgottenNear sizes.now (state_of front.now) application.now
+    ensures forgotten { IsForgottenNear sizes.now (state_of front.now) application.now
         refusals.old refusals.new }
+    ensures again { AreTriedAgain
+        (record { least = refusals.old.least.items; work = work.old })
+        (record { least = refusals.new.least.items; work = work.new }) }
 {
     let _lines = front.lines();
     let (made, elements) = (application.made.as_slice(), application.elements.as_slice());
     let area = area_of(front, made, elements);
     let reach = refusals.reach;
-    match around_of(&area, &refusals.widest) {
-        Some(around) => {
-            let lowest = forget(&mut refusals.least, front, sizes, reach, &area, &around);
-            lower(&mut refusals.first, lowest);
+    match lines_around(alloc, front, &area, &refusals.widest) {
+        Some(lines) => {
+            let numbers = lines.as_slice();
+            look_at_all(
+                &mut refusals.least,
+                work,
+                front,
+                sizes,
+                numbers,
+                reach,
+                &area,
+            );
         }
         None => {
             refusals.least.clear();
-            refusals.first.clear();
+            *work = None;
         }
     }
 }

@@ -1,8 +1,12 @@
-use Rattle.mesh_run.specs.Remembered.{AreTrue, AreSpentBelow, setting_in, state_in}
+use Rattle.mesh_run.specs.Remembered.{AreTrue, setting_in, state_in}
+use Rattle.mesh_run.specs.Worklist.{AreToTry, tries_left}
 use Rattle.mesh_run.proofs.search.next_in.Given as goal
 
-abbrev pub invariant-loop-class : goal.invariant-loop-class
-invariant-loop-class g l = record {
-  spent : AreSpentBelow (setting_in l.scene) (state_in l.scene) l.class;
+abbrev pub invariant-loop-turn : goal.invariant-loop-turn
+invariant-loop-turn g l = record {
   remembered : AreTrue l.refusals (setting_in l.scene) (state_in l.scene);
+  to_try : AreToTry l.work l.scene.front.now.lines l.refusals.least.items l.scene.last;
 }
+
+abbrev pub decreases-loop-turn : goal.decreases-loop-turn
+decreases-loop-turn g l = tries_left l.scene.last l.work.keys

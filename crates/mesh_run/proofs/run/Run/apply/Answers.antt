@@ -54,7 +54,7 @@ invariant_of-self-2 c =
     let next = subst (λ (s : RunState). IsNext (setting_by s.basis) s.state c.args.application) (sym c.self.view_is) c.requires.next in
     let may = may_be_put r.sizes r.rules.now (run_of (parts r)).state c.reserve-2.new.self c.args.application c.get.result.now c.lines-lines.ensures.holds
     (record { points = sym reserved.points; front = sym reserved.lines }) c.rule-rule.ensures.rule c.get.ensures next.best in
-    remembers_after (parts r) c.args.application c.reserve-2.new.self c.put.new.front c.push_reserved.new.self.items r.refusals c.forget_near.new.refusals c.self.invariant next c.lines-lines.ensures.holds may (pushed c) c.forget_near.ensures
+    remembers_after (parts r) c.args.application c.reserve-2.new.self c.put.new.front c.push_reserved.new.self.items r.refusals c.forget_near.new.refusals r.work c.forget_near.new.work c.put.new.work c.self.invariant next c.lines-lines.ensures.holds may (pushed c) c.forget_near.ensures.forgotten c.forget_near.ensures.again c.put.ensures.tried
 
 pub returns-clause-applied : goal.returns-clause-applied
 returns-clause-applied c =

@@ -1,0 +1,16 @@
+use Rattle.std.proofs.Common.{sym, ◌∙◌}
+use Rattle.rule_match.specs.Least.{HasNone}
+use Rattle.mesh_run.specs.Remembered.{setting_in, state_in}
+use Rattle.mesh_run.proofs.SameState.{none_there}
+use Rattle.mesh_run.proofs.Turns.{none_up_to, put_on_again}
+use Rattle.mesh_run.proofs.search.try_turn.Goals as goal
+
+pub returns-then-is_some-clause-to_try : goal.returns-then-is_some-clause-to_try
+returns-then-is_some-clause-to_try g c =
+    put_on_again c.args.scene.now.front.now.lines c.args.refusals.now.least.items c.args.scene.now.last c.args.turn c.args.work.now c.insert.new.self c.requires.to_try c.in_ok-insert.ensures.updates
+
+pub remember-requires-clause-none : goal.remember-requires-clause-none
+remember-requires-clause-none g c =
+    let s = setting_in c.args.scene.now in let st = state_in c.args.scene.now in
+    none_up_to s st c.args.turn c.requires.before
+    (none_there (HasNone s.sizes st s.rules c.args.turn.1 c.args.turn.0) c.in_ok-found.found (sym c.is_some.ensures ∙ c.if-is_some.false) c.in_ok-found.ensures.none)
