@@ -221,6 +221,16 @@ near_found b near (e ∷ es) h = by (is_hit b e) (near (line_of e)) h.0 (near_fo
     by true false i k = absurd cc
     by false true i k = absurd cc
 
+near_kept : (b : Bounds) (near : ℕ → Bool) (es : List (Entry ℕ)) → AllByRecursion (λ e. is_hit b e ≡ near (line_of e)) es → map line_of (filter (is_hit b) es) ≡ filter near (map line_of es)
+near_kept b near [] h = refl
+near_kept b near (e ∷ es) h = by (is_hit b e) (near (line_of e)) h.0 (near_kept b near es h.1)
+  where
+    by : (t u : Bool) → t ≡ u → map line_of (filter (is_hit b) es) ≡ filter near (map line_of es) → map line_of (cond t (e ∷ filter (is_hit b) es) (filter (is_hit b) es)) ≡ cond u (line_of e ∷ filter near (map line_of es)) (filter near (map line_of es))
+    by true true i k = ap (λ (ns : List ℕ). line_of e ∷ ns) k
+    by false false i k = k
+    by true false i k = absurd cc
+    by false true i k = absurd cc
+
 module _ (points : List Point) (ends : ℕ → Option (ℕ × ℕ)) (b : Bounds) where
   hit_near : (e : Entry ℕ) (o : Option (ℕ × ℕ)) → option_map (λ line. box_of (pair_edge points line)) o ≡ Some e.bounds → is_hit b e ≡ option_map_or (λ line. does_meet b (pair_edge points line)) o false
   hit_near e None f = absurd cc
@@ -236,6 +246,9 @@ module _ (points : List Point) (ends : ℕ → Option (ℕ × ℕ)) (b : Bounds)
 module _ {points : List Point} {ends : ℕ → Option (ℕ × ℕ)} {es : List (Entry ℕ)} (b : Bounds) (h : AreBoxed points ends es) where
   pub first_near : option_map line_of (find (is_hit b) es) ≡ find (is_near_by points ends b) (map line_of es)
   first_near = near_found b (is_near_by points ends b) es (hits_near points ends b es h.boxed)
+
+  pub near_lines : map line_of (filter (is_hit b) es) ≡ filter (is_near_by points ends b) (map line_of es)
+  near_lines = near_kept b (is_near_by points ends b) es (hits_near points ends b es h.boxed)
 
   pub next_near : (n : ℕ) → option_map line_of (find (is_hit b) (after_first (has_line n) es)) ≡ find (is_near_by points ends b) (after_first (nat_eq n) (map line_of es))
   next_near n =

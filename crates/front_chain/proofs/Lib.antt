@@ -12,6 +12,7 @@ pub mod Above
 pub mod Neighbours
 pub mod Numbered
 pub mod Walks
+pub mod NearLines
 pub mod Ends
 -- Gluing: one side, the sides of an element one after another.
 pub mod Sides

@@ -83,6 +83,15 @@ first_in_walk f b = find (is_near f b) f.walk
 abbrev pub next_in_walk : FrontState → Bounds → ℕ → Option ℕ
 next_in_walk f b after = find (is_near f b) (after_first (nat_eq after) f.walk)
 
+-- the lines of the walk whose boxes meet b, in its order
+abbrev pub near_in_walk : FrontState → Bounds → List ℕ
+near_in_walk f b = filter (is_near f b) f.walk
+
+-- the numbers of the front lines whose boxes meet b, each once
+pub record AreNear (f : FrontState) (b : Bounds) (numbers : List ℕ) : Type 0 where
+  pub each : (n : ℕ) → list_any (nat_eq n) numbers ≡ is_near f b n
+  pub once : IsDistinct nat_eq numbers
+
 -- ---- what is true of every front
 -- a whole number, read as 0 where it is below 0
 abbrev pub or_zero : ℤ → ℕ

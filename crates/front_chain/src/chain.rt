@@ -1,8 +1,8 @@
 // The points and lines of a front in tables: each is found in one look, and a line joins or leaves at the same cost however long the front is.
-ghost use Rattle.std.specs.Prelude.{◌≡◌, ◌+◌, ◌-◌, ◌<◌, ◌≤◌, ◌^◌, nat_eq, true, false, [], ◌∷◌, ◌++◌, length, set, filter, not, Some, None, is_some, OnOk, IsTrue};
+ghost use Rattle.std.specs.Prelude.{◌≡◌, ◌+◌, ◌-◌, ◌<◌, ◌≤◌, ◌^◌, nat_eq, true, false, [], ◌∷◌, ◌++◌, length, set, filter, not, Some, None, is_some, IfOk, OnOk, IsTrue};
 ghost use Rattle.std.specs.List.{AllByRecursion, list_any};
 ghost use Rattle.state_law.specs.State.{IsListed, glue_line, next_after, point_at};
-ghost use Rattle.front_chain.specs.Front.{FrontState, IsWalk, line_at, number_between, number_above, number_of, is_near, first_in_walk, next_in_walk, still_waiting};
+ghost use Rattle.front_chain.specs.Front.{FrontState, IsWalk, line_at, number_between, number_above, number_of, is_near, first_in_walk, near_in_walk, next_in_walk, still_waiting};
 ghost use Rattle.front_chain.specs.Tables.{side_at, is_positive};
 ghost use Rattle.front_chain.specs.Boxes.{has_line, IsEntered, IsLeft};
 
@@ -326,6 +326,14 @@ impl Chain {
         ensures { result ≡ first_in_walk self.now b.now }
     {
         self.walk.first(b)
+    }
+
+    /// The lines whose boxes meet `b`, in the order of the walk.
+    pub fn near_lines(&self, alloc: Global, b: &Bounds) -> Result<Vec<u64>, OutOfMemory>
+        ensures { IfOk result (λ v. v.items ≡ near_in_walk self.now b.now) }
+    {
+        let numbers = self.walk.hits(alloc, b)?;
+        Ok(numbers)
     }
 
     /// The first line of the walk after this one whose box meets `b`.

@@ -1,5 +1,6 @@
 // The front of a domain as a value that can't be wrong.
-ghost use Rattle.std.specs.Prelude.{◌≡◌, ℕ, ◌+◌, ◌<◌, ◌≤◌, List, [], ◌∷◌, ◌++◌, length, None, IfOk, OnOk, IfSome, IsTrue, ◌+ℤ◌};
+ghost use Rattle.std.specs.Prelude.{◌≡◌, ℕ, ◌+◌, ◌<◌, ◌≤◌, List, [], ◌∷◌, ◌++◌, length, None, true, is_some, IfOk, OnOk, IfSome, IsTrue, ◌+ℤ◌};
+ghost use Rattle.std.specs.List.{All};
 ghost use Rattle.std.specs.Option.{option_map};
 ghost use Rattle.grid_geom.specs.declared.RatPoint.{RatPoint};
 ghost use Rattle.grid_geom.specs.Bounds.{IsOnGrid};
@@ -7,7 +8,7 @@ ghost use Rattle.grid_geom.specs.Area.{shoelace};
 ghost use Rattle.grid_geom.specs.Polygon.{sides};
 ghost use Rattle.grid_geom.specs.Winding.{wind};
 ghost use Rattle.state_law.specs.State.{IsListed, point_at, corners_of, glued};
-ghost use Rattle.front_chain.specs.Front.{IsFrontState, IsOpening, IsGluable, edges_of, state_of, spare_elements, line_at, number_between, number_above, number_of, is_end, is_near, first_in_walk, next_in_walk, numbered_from, idle_points, still_waiting};
+ghost use Rattle.front_chain.specs.Front.{IsFrontState, IsOpening, IsGluable, AreNear, edges_of, state_of, spare_elements, line_at, number_between, number_above, number_of, is_end, is_near, first_in_walk, near_in_walk, next_in_walk, numbered_from, idle_points, still_waiting};
 
 use crate::chain::Chain;
 use crate::gluing::{element_area, glue_sides};
@@ -170,6 +171,18 @@ impl Front {
         ensures near { IfSome result (λ near. IsTrue (is_near self.now b.now near.line)) }
     {
         met(self.chain.next_near(b, after.line))
+    }
+
+    /// The numbers of the lines whose boxes meet `b`, in the order of the front's walk: those that
+    /// `first_near` and `next_near` meet one after another, at the cost of one walk.
+    pub fn near_lines(&self, alloc: Global, b: &Bounds) -> Result<Vec<u64>, OutOfMemory>
+        ensures walked { IfOk result (λ v. v.items ≡ near_in_walk self.now b.now) }
+        ensures near { IfOk result (λ v. AreNear self.now b.now v.items) }
+        ensures there { IfOk result (λ v.
+            All (λ n. is_some (line_at self.now.lines n) ≡ true) v.items) }
+    {
+        let numbers = self.chain.near_lines(alloc, b)?;
+        Ok(numbers)
     }
 
     /// Takes memory for so many more points and elements. Whatever it answers, the points, the lines and

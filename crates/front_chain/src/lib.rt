@@ -13,12 +13,13 @@
 //!    listed, but no corner of a glued element so far.
 //! 5. The walk has the number of each line once. Its order is the front's own choice.
 //!
-//! `open`, `reserve` alone take memory. Every look-up is one look in a table; gluing costs what the
+//! `open`, `reserve` and `near_lines` alone take memory. Every look-up is one look in a table; gluing costs what the
 //! element has, and the waiting points, however long the front is. Lines are linked in order of making,
 //! so what is kept of them is as long as the front, and no walk meets a line that has left. `next_line`
 //! is one look where it is given the number of a line, and else a walk from the first line on. The walks
 //! over near lines ask a tree of the lines' boxes (Bonet and Peraire 1991), whose order is the walk: a
-//! step costs about the tree's height, and what stands off the box isn't looked at.
+//! step costs about the tree's height, and what stands off the box isn't looked at. `near_lines` meets
+//! all near lines in one walk down the tree, which costs less than a step for each.
 #![tactic(auto)]
 
 mod boxes;

@@ -1,5 +1,5 @@
 // The walk over a front's lines: their boxes in a tree, and the key of each line's box by the line's number.
-ghost use Rattle.std.specs.Prelude.{◌≡◌, ◌+◌, ◌≤◌, false, true, [], OnOk};
+ghost use Rattle.std.specs.Prelude.{◌≡◌, ◌+◌, ◌≤◌, false, true, [], map, filter, IfOk, OnOk};
 ghost use Rattle.std.specs.List.{find, list_any, after_first};
 ghost use Rattle.std.specs.Option.{option_map};
 ghost use Rattle.digital_tree.specs.Entries.{has_key, is_hit};
@@ -96,6 +96,16 @@ impl Walk {
             None => None,
             Some(key) => self.line_at(key),
         }
+    }
+
+    /// The lines whose boxes meet `b`, in the order of the tree.
+    pub fn hits(&self, alloc: Global, b: &Bounds) -> Result<Vec<u64>, OutOfMemory>
+        ensures { IfOk result
+            (λ v. v.items ≡ map line_of (filter (is_hit b.now) self.now.entries)) }
+    {
+        let mut hits = Vec::new(alloc);
+        self.tree.push_hits(b, &mut hits)?;
+        hits.iter().map(|hit| hit.value).collect(alloc)
     }
 
     /// The first line after the one with number `after` whose box meets `b`.

@@ -2,8 +2,6 @@
 
 -- numbers of points that are known
 pub mod Known
--- a text has no more words than bytes
-pub mod Count
 -- what is read to the end is derived
 pub mod Forward
 -- what is derived is read, where there is room for its rows

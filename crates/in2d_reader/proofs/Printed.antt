@@ -1,47 +1,32 @@
 -- What is printed is derived again.
-use Rattle.std.proofs.Common.{◌≡◌, ℕ, zero, suc, ◌+◌, ◌-◌, ◌^◌, ◌<◌, ◌≤◌, Bool, true, false, cond, not, eqb, ◌&&◌, List, [], ◌∷◌, ◌++◌, length, take, drop, map, replicate, Option, Some, None, ℤ, pos, negsuc, ◌-ℤ◌, inl, inr, unsigned_abs, refl, sym, ap, subst, ◌∙◌, arith, length-append}
+use Rattle.std.proofs.Common.{◌≡◌, ℕ, zero, suc, ◌+◌, ◌-◌, ◌^◌, ◌<◌, ◌≤◌, Bool, true, false, cond, List, [], ◌∷◌, ◌++◌, length, take, drop, map, replicate, Option, Some, None, ℤ, pos, negsuc, ◌-ℤ◌, inl, inr, unsigned_abs, refl, sym, ap, subst, ◌∙◌, arith, length-append}
 use Rattle.std.specs.Prelude.{Result, Ok, Err, IfOk, IfSome, nat_le, int_le}
 use Rattle.std.specs.List.{flat_map, AllByRecursion}
 use Rattle.std.specs.Fmt.{decimal}
 use Rattle.std.specs.Str.{all_ascii_digits}
-use Rattle.std.specs.Str.Parse.{digits_value, digits_value_after}
-use Rattle.std.proofs.lemmas.Bool.{le-leb, lt-ltb, leb-true, and_parts, and_from, not-true, eqb-false, ne_eqb}
-use Rattle.std.proofs.Math.Nat.{pow-le-pow_right}
+use Rattle.std.specs.Str.Parse.{digits_value_after}
+use Rattle.std.proofs.lemmas.Bool.{leb-true, and_parts, and_from}
 use Rattle.std.proofs.lemmas.Int.{ints}
 use Rattle.std.specs.Char.{is_ascii_digit}
 use Rattle.std.proofs.lemmas.List.{length-replicate, length-take, length-drop, take-append-drop, append-nil, drop_all}
-use Rattle.std.proofs.lemmas.Fmt.{digits_decimal, digits_value-decimal, decimal_nonempty, length-decimal-le, decimal_is_IsNumeral_wide, length-decimal-le_wide}
-use Rattle.std.proofs.lemmas.Str.Parse.{IsNumeralModel, numerals_by_value, tells_all_ascii_digits}
 use Rattle.word_scan.specs.declared.decimals.Dec.{Dec}
 use Rattle.word_scan.specs.Bytes.{is_white}
-use Rattle.word_scan.specs.Parts.{IsRun, StartsNoNote}
+use Rattle.word_scan.specs.Parts.{IsRun}
 use Rattle.word_scan.specs.Scan.{words_of}
 use Rattle.word_scan.specs.Numerals.{whole_of, value_of}
-use Rattle.word_scan.specs.Decimals.{decimal_of, Sign, NoSign, Plus, Minus, is_minus, signed, sign_text, fraction_text, fraction_digits, power_text, Power, IsPowerIfAny, DecimalParts, IsDecimal, spelling, value}
+use Rattle.word_scan.specs.Decimals.{decimal_of, Sign, sign_of, is_minus, signed, sign_text, fraction_text, fraction_digits, power_text, Power, IsPowerIfAny, DecimalParts, IsDecimal, spelling, value}
 use Rattle.word_scan.proofs.DecimalLaws.{decimal_read, all_digits_both}
+use Rattle.word_scan.proofs.PlainWords.{plain_byte, plain_bytes, plain_each, plain_start, run_of, plain_both, plain_digits, plain_sign, plain_fraction}
+use Rattle.word_scan.proofs.NumberTexts.{Digits, digits_of, whole_again, number_run, signed_again, sign_short}
 use Rattle.in2d_reader.specs.declared.geometry.PointRow.{PointRow}
 use Rattle.in2d_reader.specs.declared.geometry.SegmentRow.{SegmentRow}
 use Rattle.in2d_reader.specs.declared.geometry.MaterialRow.{MaterialRow}
 use Rattle.in2d_reader.specs.declared.geometry.RawGeometry.{RawGeometry}
 use Rattle.in2d_reader.specs.Words.{Word, head_word, points_word, segments_word, materials_word, two_word, maxh_text, bc_text, is_flag, behind, Given, Value, Nothing, value_or_bad, size_in, number_in, from_one}
 use Rattle.in2d_reader.specs.Grammar.{IsGood, latest, material_texts, materials_part, PointText, SegmentText, MaterialText, FileText, point_words, segment_words, material_words, file_words, IsPoint, IsSegment, IsMaterial, Each, IsFile, Derives, last_value, IsSizeFlag, IsSegmentFlag}
-use Rattle.in2d_reader.specs.Normal.{sign_of, filled, plain_parts, power_parts, is_plain, normal_parts, decimal_text, size_flags, number_flags, point_line, segment_line, material_line, material_lines, lines_of, normal_text, IsDec, IsPointRow, IsSegmentRow, IsMaterialRow, CanPrint}
+use Rattle.in2d_reader.specs.Normal.{filled, plain_parts, power_parts, is_plain, normal_parts, decimal_text, size_flags, number_flags, point_line, segment_line, material_line, material_lines, lines_of, normal_text, IsDec, IsPointRow, IsSegmentRow, IsMaterialRow, CanPrint}
 use Rattle.in2d_reader.proofs.Lines.{words_of_lines}
 use Rattle.in2d_reader.proofs.Texts.{flat_map_both}
-
--- ---- whole numbers
-
-own : IsNumeralModel (λ ds. all_ascii_digits ds ≡ true) (digits_value 10)
-own = numerals_by_value _ tells_all_ascii_digits
-
-whole_again : (n greatest : ℕ) → n ≤ greatest → n < 10 ^ 13 → whole_of (decimal n) greatest ≡ Some n
-whole_again n greatest le small =
-    let fits : n < 2 ^ 64 = omega arith in
-    let some : 0 < length (decimal n) = decimal_nonempty n fits in
-    let few : length (decimal n) ≤ 13 = length-decimal-le 13 n (omega arith) small fits in
-    let value : digits_value 10 (decimal n) ≡ n = digits_value-decimal own n fits in
-    let all : all_ascii_digits (decimal n) ≡ true = digits_decimal own n fits in
-    rw (lt-ltb 0 (length (decimal n)) some, le-leb (length (decimal n)) 13 few, all, value, le-leb n greatest le) refl
 
 -- ---- decimals
 
@@ -60,12 +45,6 @@ noughts_value : (n : ℕ) (ds : List ℕ) → digits_value_after 10 0 (replicate
 noughts_value zero ds = refl
 noughts_value (suc n) ds = noughts_value n ds
 
-record Digits (m : ℕ) (ds : List ℕ) (most : ℕ) : Type 0 where
-  all : all_ascii_digits ds ≡ true
-  value : value_of ds ≡ m
-  some : 0 < length ds
-  few : length ds ≤ most
-
 abbrev dec : ℤ → ℤ → Dec
 dec digits scale = record { digits = digits; scale = scale }
 
@@ -75,27 +54,13 @@ powered sign ds power_sign es = record { sign = sign; front = ds; fraction = Non
 less_nought : (z : ℤ) → z -ℤ pos 0 ≡ z
 less_nought z = omega (arith, ints)
 
-wide : (m k : ℕ) → 0 < k → k ≤ 30 → m < 10 ^ k → Digits m (decimal m) k
-wide m k some le small =
-    let fits : m < 10 ^ 64 = omega (arith, small, pow-le-pow_right {n = 10} (omega arith) le) in
-    let numeral = decimal_is_IsNumeral_wide m fits in
-    record { all = own.from (decimal m) numeral.0.1; value = numeral.1; some = omega (arith, numeral.0.0); few = length-decimal-le_wide k m some small fits }
-
 -- noughts in front change no value
 filled_digits : (k m : ℕ) → k ≤ 20 → m < 10 ^ 30 → Digits m (filled k (decimal m)) 30 × (k < length (filled k (decimal m)))
 filled_digits k m le small =
-    let d = wide m 30 (omega arith) (omega arith) small in
+    let d = digits_of m 30 (omega arith) (omega arith) small in
     let n = k + 1 - length (decimal m) in
     let len : length (filled k (decimal m)) ≡ n + length (decimal m) = length-append (replicate n 48) (decimal m) ∙ ap (λ (j : ℕ). j + length (decimal m)) (length-replicate n 48) in
     (record { all = all_digits_both (replicate n 48) (decimal m) (noughts_all n) d.all; value = noughts_value n (decimal m) ∙ d.value; some = omega (arith, len, d.some); few = omega (arith, len, d.few) }, omega (arith, len))
-
-signed_again : (z : ℤ) → signed (is_minus (sign_of z)) (unsigned_abs z) ≡ z
-signed_again (pos n) = refl
-signed_again (negsuc n) = refl
-
-sign_short : (z : ℤ) → length (sign_text (sign_of z)) ≤ 1
-sign_short (pos n) = omega arith
-sign_short (negsuc n) = omega arith
 
 plain_scale : (z : ℤ) → is_plain z ≡ true → (unsigned_abs z ≤ 20) × (pos 0 -ℤ pos (unsigned_abs z) ≡ z)
 plain_scale (pos n) e =
@@ -181,7 +146,7 @@ normal_is d is = go (is_plain d.scale) refl
         let f = filled_digits (unsigned_abs d.scale) (unsigned_abs d.digits) s.0 is.digits in
         plain_is d.digits d.scale (unsigned_abs d.scale) (unsigned_abs d.digits) (filled (unsigned_abs d.scale) (decimal (unsigned_abs d.digits))) f.0 f.1 s.1 is.scale refl
     go false e =
-        power_is d.digits d.scale (unsigned_abs d.digits) (unsigned_abs d.scale) (decimal (unsigned_abs d.digits)) (decimal (unsigned_abs d.scale)) (wide (unsigned_abs d.digits) 30 (omega arith) (omega arith) is.digits) (wide (unsigned_abs d.scale) 2 (omega arith) (omega arith) (omega (arith, is.scale))) refl refl is.scale
+        power_is d.digits d.scale (unsigned_abs d.digits) (unsigned_abs d.scale) (decimal (unsigned_abs d.digits)) (decimal (unsigned_abs d.scale)) (digits_of (unsigned_abs d.digits) 30 (omega arith) (omega arith) is.digits) (digits_of (unsigned_abs d.scale) 2 (omega arith) (omega arith) (omega (arith, is.scale))) refl refl is.scale
 
 decimal_again : (d : Dec) → IsDec d → decimal_of (decimal_text d) ≡ Some d
 unfolding decimal_text
@@ -357,63 +322,6 @@ lines_words raw =
 
 -- ---- each is a word
 
-plain_byte : ℕ → Bool
-plain_byte b = not (is_white b) && not (eqb b 35)
-
-plain_bytes : List ℕ → Bool
-plain_bytes [] = true
-plain_bytes (b ∷ bytes) = plain_byte b && plain_bytes bytes
-
-plain_each : (bytes : List ℕ) → plain_bytes bytes ≡ true → AllByRecursion (λ b. is_white b ≡ false) bytes
-unfolding plain_bytes plain_byte
-plain_each [] e = tt
-plain_each (b ∷ bytes) e =
-    let h = and_parts (plain_byte b) (plain_bytes bytes) e in
-    (not-true (is_white b) (and_parts (not (is_white b)) (not (eqb b 35)) h.0).0, plain_each bytes h.1)
-
-plain_start : (bytes : List ℕ) → plain_bytes bytes ≡ true → StartsNoNote bytes
-unfolding plain_bytes plain_byte
-plain_start [] e = tt
-plain_start (b ∷ bytes) e =
-    let h = and_parts (plain_byte b) (plain_bytes bytes) e in
-    eqb-false b 35 (not-true (eqb b 35) (and_parts (not (is_white b)) (not (eqb b 35)) h.0).1)
-
-run_of : (bytes : List ℕ) → 0 < length bytes → plain_bytes bytes ≡ true → IsRun bytes
-run_of bytes some e = record { some = some; each = plain_each bytes e; start = plain_start bytes e }
-
-plain_both : (a b : List ℕ) → plain_bytes a ≡ true → plain_bytes b ≡ true → plain_bytes (a ++ b) ≡ true
-unfolding plain_bytes
-plain_both [] b p q = q
-plain_both (x ∷ a) b p q = let h = and_parts (plain_byte x) (plain_bytes a) p in and_from (plain_byte x) (plain_bytes (a ++ b)) h.0 (plain_both a b h.1 q)
-
-plain_digit : (b : ℕ) → 48 ≤ b → plain_byte b ≡ true
-unfolding plain_byte
-plain_digit b le =
-    let e32 : eqb b 32 ≡ false = ne_eqb b 32 (λ e. omega (arith, le, e)) in
-    let e9 : eqb b 9 ≡ false = ne_eqb b 9 (λ e. omega (arith, le, e)) in
-    let e13 : eqb b 13 ≡ false = ne_eqb b 13 (λ e. omega (arith, le, e)) in
-    let e10 : eqb b 10 ≡ false = ne_eqb b 10 (λ e. omega (arith, le, e)) in
-    let e35 : eqb b 35 ≡ false = ne_eqb b 35 (λ e. omega (arith, le, e)) in
-    rw (e32, e9, e13, e10, e35) refl
-
-plain_digits : (ds : List ℕ) → all_ascii_digits ds ≡ true → plain_bytes ds ≡ true
-unfolding plain_bytes
-plain_digits [] e = refl
-plain_digits (b ∷ ds) e =
-    let parts = tells_all_ascii_digits.parts b ds e in
-    and_from (plain_byte b) (plain_bytes ds) (plain_digit b parts.0.0) (plain_digits ds parts.1)
-
-plain_sign : (sign : Sign) → plain_bytes (sign_text sign) ≡ true
-unfolding plain_bytes plain_byte
-plain_sign NoSign = refl
-plain_sign Plus = refl
-plain_sign Minus = refl
-
-plain_fraction : (fraction : Option (List ℕ)) → all_ascii_digits (fraction_digits fraction) ≡ true → plain_bytes (fraction_text fraction) ≡ true
-unfolding plain_bytes plain_byte
-plain_fraction None e = refl
-plain_fraction (Some digits) e = plain_digits digits e
-
 plain_power : (power : Option Power) → IsPowerIfAny power → plain_bytes (power_text power) ≡ true
 unfolding plain_bytes plain_byte
 plain_power None is = refl
@@ -439,11 +347,6 @@ decimal_run d is =
         let middle = length-append parts.front (fraction_text parts.fraction ++ power_text parts.power) in
         let inner = length-append (fraction_text parts.fraction) (power_text parts.power) in
         omega (arith, outer, middle, inner, n.some, fraction_long parts.fraction)
-
-number_run : (n : ℕ) → n ≤ 999999 → IsRun (decimal n)
-number_run n le =
-    let fits : n < 2 ^ 64 = omega arith in
-    run_of (decimal n) (decimal_nonempty n fits) (plain_digits (decimal n) (digits_decimal own n fits))
 
 -- no byte of a word is white, and behind other bytes it may begin with any
 run_plain : (bytes : List ℕ) → AllByRecursion (λ b. is_white b ≡ false) bytes → (front : List ℕ) → AllByRecursion (λ b. is_white b ≡ false) front → AllByRecursion (λ b. is_white b ≡ false) (front ++ bytes)
@@ -476,7 +379,7 @@ size_run (Some d) is = (flag_run maxh_text (decimal_text d) maxh_some maxh_plain
 
 numbers_run : (bc : Option ℕ) (words : List Word) → IfSome bc (λ n. (0 < n) × (n ≤ 999999)) → AllByRecursion IsRun words → AllByRecursion IsRun (number_flags bc ++ words)
 numbers_run None words is each = each
-numbers_run (Some n) words is each = (flag_run bc_text (decimal n) bc_some bc_plain (number_run n is.1), each)
+numbers_run (Some n) words is each = (flag_run bc_text (decimal n) bc_some bc_plain (number_run n (omega (arith, is.1))), each)
 
 head_run : IsRun head_word
 unfolding head_word plain_bytes plain_byte
@@ -507,13 +410,13 @@ lines_both (line ∷ a) b p q = (p.0, lines_both a b p.1 q)
 
 point_lines_run : (rows : List PointRow) → AllByRecursion IsPointRow rows → AreLines (map point_line rows)
 point_lines_run [] all = tt
-point_lines_run (row ∷ rows) all = ((number_run row.number all.0.number, (decimal_run row.x all.0.x, (decimal_run row.y all.0.y, size_run row.maxh all.0.maxh))), point_lines_run rows all.1)
+point_lines_run (row ∷ rows) all = ((number_run row.number (omega (arith, all.0.number)), (decimal_run row.x all.0.x, (decimal_run row.y all.0.y, size_run row.maxh all.0.maxh))), point_lines_run rows all.1)
 
 segment_lines_run : (rows : List SegmentRow) → AllByRecursion IsSegmentRow rows → AreLines (map segment_line rows)
 segment_lines_run [] all = tt
 segment_lines_run (row ∷ rows) all =
     let is = all.0 in
-    ((number_run row.left (omega (arith, is.left)), (number_run row.right (omega (arith, is.right)), (two_run, (number_run row.p is.p, (number_run row.q is.q, numbers_run row.bc (size_flags row.maxh) is.bc (size_run row.maxh is.maxh)))))), segment_lines_run rows all.1)
+    ((number_run row.left (omega (arith, is.left)), (number_run row.right (omega (arith, is.right)), (two_run, (number_run row.p (omega (arith, is.p)), (number_run row.q (omega (arith, is.q)), numbers_run row.bc (size_flags row.maxh) is.bc (size_run row.maxh is.maxh)))))), segment_lines_run rows all.1)
 
 material_rows_run : (rows : List MaterialRow) → AllByRecursion IsMaterialRow rows → AreLines (map material_line rows)
 material_rows_run [] all = tt

@@ -3,10 +3,10 @@ use Rattle.std.proofs.Common.{◌≡◌, List, [], ◌∷◌, ◌++◌, ℕ, tru
 use Rattle.std.proofs.lemmas.Bool.{cond-true, cond-false}
 use Rattle.std.specs.Fmt.{decimal}
 use Rattle.word_scan.specs.declared.decimals.Dec.{Dec}
-use Rattle.word_scan.specs.Decimals.{DecimalParts, sign_text, spelling}
+use Rattle.word_scan.specs.Decimals.{DecimalParts, sign_of, sign_text, spelling}
 use Rattle.std.specs.List.{flat_map}
 use Rattle.in2d_reader.specs.Words.{Word}
-use Rattle.in2d_reader.specs.Normal.{spaced, line_text, sign_of, filled, plain_parts, plain_text, power_parts, is_plain, decimal_text}
+use Rattle.in2d_reader.specs.Normal.{spaced, line_text, filled, plain_parts, plain_text, power_parts, is_plain, decimal_text}
 
 pub flat_map_both : {X A : Type 0} (f : X → List A) (xs ys : List X) → flat_map f (xs ++ ys) ≡ flat_map f xs ++ flat_map f ys
 flat_map_both f [] ys = refl

@@ -10,18 +10,13 @@ use Rattle.std.specs.List.{flat_map, AllByRecursion}
 use Rattle.std.specs.Fmt.{decimal}
 use Rattle.word_scan.specs.declared.decimals.Dec.{Dec}
 use Rattle.word_scan.specs.Parts.{IsRun}
-use Rattle.word_scan.specs.Decimals.{Sign, NoSign, Minus, DecimalParts, spelling, fraction_text}
+use Rattle.word_scan.specs.Decimals.{Sign, sign_of, DecimalParts, spelling, fraction_text}
 use Rattle.in2d_reader.specs.declared.geometry.PointRow.{PointRow}
 use Rattle.in2d_reader.specs.declared.geometry.SegmentRow.{SegmentRow}
 use Rattle.in2d_reader.specs.declared.geometry.MaterialRow.{MaterialRow}
 use Rattle.in2d_reader.specs.declared.geometry.RawGeometry.{RawGeometry}
 use Rattle.in2d_reader.specs.Words.{Word, head_word, points_word, segments_word, materials_word, two_word, maxh_text, bc_text, is_name}
 use Rattle.in2d_reader.specs.Grammar.{Fits}
-
--- a number's sign
-abbrev pub sign_of : ℤ → Sign
-sign_of (pos n) = NoSign
-sign_of (negsuc n) = Minus
 
 -- digits with noughts before them, one more than `places` at least
 abbrev pub filled : ℕ → List ℕ → List ℕ

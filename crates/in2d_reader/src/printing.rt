@@ -4,8 +4,8 @@ ghost use Rattle.std.specs.Prelude.{◌≡◌, ◌++◌, ◌∷◌, [], ◌<◌,
 ghost use Rattle.std.specs.List.{flat_map};
 ghost use Rattle.std.specs.Fmt.{decimal};
 ghost use Rattle.word_scan.specs.Scan.{words_of};
-ghost use Rattle.word_scan.specs.Decimals.{sign_text, spelling};
-ghost use Rattle.in2d_reader.specs.Normal.{sign_of, filled, plain_text, is_plain, head_lines, decimal_text, size_flags, number_flags, spaced, line_text, point_line, segment_line, material_line, material_lines, normal_text, CanPrint};
+ghost use Rattle.word_scan.specs.Decimals.{sign_of, sign_text, spelling};
+ghost use Rattle.in2d_reader.specs.Normal.{filled, plain_text, is_plain, head_lines, decimal_text, size_flags, number_flags, spaced, line_text, point_line, segment_line, material_line, material_lines, normal_text, CanPrint};
 ghost use Rattle.in2d_reader.specs.Grammar.{Derives};
 
 use crate::geometry::{MaterialRow, PointRow, RawGeometry, SegmentRow};

@@ -1,14 +1,11 @@
 -- Each printed entry is what the grammar says.
-use Rattle.std.proofs.Common.{◌≡◌, ℕ, zero, suc, ◌+◌, ◌^◌, ◌<◌, ◌≤◌, Bool, true, false, List, [], ◌∷◌, ◌++◌, length, codes, ℤ, refl, sym, ap, subst, ◌∙◌, arith, append_assoc}
+use Rattle.std.proofs.Common.{◌≡◌, ℕ, zero, suc, ◌+◌, ◌<◌, ◌≤◌, Bool, true, false, List, [], ◌∷◌, ◌++◌, length, codes, ℤ, refl, sym, ap, subst, ◌∙◌, arith, append_assoc}
 use Rattle.std.specs.List.{flat_map, AllByRecursion}
 use Rattle.std.specs.Char.{is_ascii_alphanumeric}
 use Rattle.std.specs.Fmt.{decimal}
 use Rattle.std.specs.Str.{all_ascii_digits}
-use Rattle.std.specs.Str.Parse.{digits_value}
 use Rattle.std.proofs.lemmas.Bool.{ne_eqb, le-ltb, and_parts, or_left}
 use Rattle.std.proofs.lemmas.List.{append-nil}
-use Rattle.std.proofs.lemmas.Fmt.{digits_decimal, decimal_nonempty}
-use Rattle.std.proofs.lemmas.Str.Parse.{IsNumeralModel, numerals_by_value, tells_all_ascii_digits}
 use Rattle.word_scan.proofs.TokenLaws.{Stops}
 use Rattle.rule_reader.specs.declared.reader.Bound.{Bound}
 use Rattle.rule_reader.specs.declared.reader.Bound.TheVariants.{First, Second, Mapped, Any as AnyPoint}
@@ -23,7 +20,7 @@ use Rattle.rule_reader.specs.Verdict.{misses}
 use Rattle.rule_reader.specs.Grammar.{standard, naming, ◌▹◌, done, many, letter, joined_variable, variable, triple, del, marks, coordinates, map_point, ends, line, map_line, mark, term, terms, row, rows, place, pair, three, element, turn}
 use Rattle.rule_reader.specs.Normal.{comma, close, coordinates_text, ends_text, triple_text, map_point_text, del_text, map_line_text, letter_text, term_text, more_terms_text, row_text, place_text, pair_text, element_text, turn_text, IsNumber, Names, AtMost, IsTriple, IsMapPoint, IsMapLine, IsTerm, IsPlace}
 use Rattle.rule_reader.proofs.Lexing.{lex, lex_name}
-use Rattle.rule_reader.proofs.PrintedNumbers.{whole_again}
+use Rattle.word_scan.proofs.NumberTexts.{digits_of, whole_again}
 use Rattle.rule_reader.proofs.Prints.{Any, Ends, Prints, chain, respell, put_left, put_right, put_done, put_white, put_mark, one_name, is_word, put_number, put_index, all_from, follows_many, many_printed, at_most_printed, ends_name}
 
 -- ---- indices that hit
@@ -94,9 +91,6 @@ map_line_printed {m} {n} small (suc k) l is = line_printed Mapped Mapped l is.to
 
 -- ---- rows
 
-own : IsNumeralModel (λ ds. all_ascii_digits ds ≡ true) (digits_value 10)
-own = numerals_by_value _ tells_all_ascii_digits
-
 digits_alphanumeric : (ds : List ℕ) → all_ascii_digits ds ≡ true → AllByRecursion (λ c. is_ascii_alphanumeric c ≡ true) ds
 digits_alphanumeric [] all = tt
 digits_alphanumeric (b ∷ ds) all = let parts = and_parts _ (all_ascii_digits ds) all in (or_left _ _ (or_left _ _ parts.0), digits_alphanumeric ds parts.1)
@@ -104,11 +98,11 @@ digits_alphanumeric (b ∷ ds) all = let parts = and_parts _ (all_ascii_digits d
 variable_printed : {m n : ℕ} (of_y : Bool) (k : ℕ) → k ≤ 9999 → Names m k → Prints m n Ends (Bool × ℕ) variable (of_y, k) (letter of_y ∷ decimal k)
 unfolding joined_variable
 variable_printed {m} {n} of_y k small names =
-    let fits : k < 2 ^ 64 = omega (arith, small) in
-    let each = digits_alphanumeric (decimal k) (digits_decimal own k fits) in
+    let d = digits_of k 4 (omega arith) (omega arith) (omega (arith, small)) in
+    let each = digits_alphanumeric (decimal k) d.all in
     let joined : Prints m n Ends (Bool × ℕ) joined_variable (of_y, k) (letter of_y ∷ decimal k) = record {
       said = naming (NameTok (letter of_y ∷ decimal k)) Mapped k ∷ [];
-      says = (decimal k, decimal_nonempty k fits, refl, whole_again k 9999 small (omega arith));
+      says = (decimal k, d.some, refl, whole_again k 9999 small (omega (arith, small)));
       spelled = λ rest f. by of_y each rest (ends_name rest f);
       hits = (mapped_hits m n k names, tt);
     } in

@@ -3,21 +3,21 @@ use Rattle.std.proofs.Common.{◌≡◌, ◌≢◌, ℕ, zero, suc, ◌+◌, ◌
 use Rattle.std.specs.Fmt.{decimal}
 use Rattle.std.specs.Char.{is_ascii_digit, digit_value}
 use Rattle.std.specs.Str.{all_ascii_digits}
-use Rattle.std.specs.Str.Parse.{digits_value, digits_value_after}
+use Rattle.std.specs.Str.Parse.{digits_value_after}
 use Rattle.std.proofs.Math.Nat.{one-le-pow, mod-lt, mul-le-mul_right, pow-suc}
 use Rattle.std.proofs.lemmas.Nat.{div-add-mod'}
-use Rattle.std.proofs.lemmas.Bool.{ne_eqb, eqb-true, eqb-false, lt-ltb, le-ltb, le-leb, ltb-true, ltb-false}
+use Rattle.std.proofs.lemmas.Bool.{ne_eqb, eqb-true, eqb-false, lt-ltb, le-ltb, ltb-true, ltb-false}
 use Rattle.std.proofs.lemmas.Int.{ints}
 use Rattle.std.proofs.lemmas.List.{append-nil}
 use Rattle.std.proofs.lemmas.List.Sums.{count_by-le-length}
 use Rattle.std.proofs.lemmas.Str.{digit_value_digit}
-use Rattle.std.proofs.lemmas.Fmt.{digits_decimal, digits_value-decimal, decimal_nonempty, length-decimal-le}
-use Rattle.std.proofs.lemmas.Str.Parse.{IsNumeralModel, numerals_by_value, tells_all_ascii_digits}
+use Rattle.std.proofs.lemmas.Str.Parse.{tells_all_ascii_digits}
 use Rattle.word_scan.specs.Bytes.{is_white}
-use Rattle.word_scan.specs.Numerals.{whole_of, value_of}
-use Rattle.word_scan.specs.Decimals.{Sign, NoSign, Minus, is_minus, signed, sign_text, fraction_text, fraction_digits, DecimalParts, IsDecimal, spelling, value, decimal_of}
+use Rattle.word_scan.specs.Numerals.{value_of}
+use Rattle.word_scan.specs.Decimals.{Sign, NoSign, Minus, sign_of, is_minus, signed, sign_text, fraction_text, fraction_digits, DecimalParts, IsDecimal, spelling, value, decimal_of}
 use Rattle.word_scan.proofs.DecimalLaws.{decimal_read}
 use Rattle.word_scan.proofs.Runs.{value_after-append}
+use Rattle.word_scan.proofs.NumberTexts.{digits_of}
 use Rattle.word_scan.proofs.TokenLaws.{EndsNumber}
 use Rattle.rule_reader.specs.Words.{NumberTok}
 use Rattle.rule_reader.specs.Numbers.{digit_count, rounded, with_sign, places_of, number_of}
@@ -25,20 +25,6 @@ use Rattle.rule_reader.specs.Normal.{minus, decimals, number_text}
 use Rattle.rule_reader.specs.Normal as normal
 use Rattle.word_scan.proofs.DecimalLaws.{size_of_signed}
 use Rattle.rule_reader.proofs.Lexing.{lex, Begins, lex_number}
-
--- ---- whole numbers
-
-own : IsNumeralModel (λ ds. all_ascii_digits ds ≡ true) (digits_value 10)
-own = numerals_by_value _ tells_all_ascii_digits
-
-pub whole_again : (n greatest : ℕ) → n ≤ greatest → greatest ≤ 9999 → whole_of (decimal n) greatest ≡ Some n
-whole_again n greatest le small =
-    let fits : n < 2 ^ 64 = omega arith in
-    let some : 0 < length (decimal n) = decimal_nonempty n fits in
-    let few : length (decimal n) ≤ 13 = length-decimal-le 13 n (omega arith) (omega arith) fits in
-    let value : digits_value 10 (decimal n) ≡ n = digits_value-decimal own n fits in
-    let all : all_ascii_digits (decimal n) ≡ true = digits_decimal own n fits in
-    rw (lt-ltb 0 (length (decimal n)) some, le-leb (length (decimal n)) 13 few, all, value, le-leb n greatest le) refl
 
 -- ---- decimals
 
@@ -179,17 +165,11 @@ fraction_is part small = by (eqb part 0) refl
     by true e = let none : part ≡ 0 = eqb-true part 0 e in (None, (rw e refl, refl, omega arith, λ start. omega (arith, none)))
     by false e = let d = decimals_are 4 part small in (Some (decimals 4 part), (rw e refl, d.0, d.1, d.2))
 
-sign_of : ℤ → Sign
-sign_of (pos n) = NoSign
-sign_of (negsuc n) = Minus
-
 minus_is : (z : ℤ) → minus z ≡ sign_text (sign_of z)
-unfolding sign_of
 minus_is (pos n) = refl
 minus_is (negsuc n) = refl
 
 value_back : (z : ℤ) (v k : ℕ) → v * 10 ^ k ≡ unsigned_abs z → with_sign (signed (is_minus (sign_of z)) v) (unsigned_abs z) ≡ z
-unfolding sign_of
 value_back (pos n) v k e = refl
 value_back (negsuc n) zero k e = absurd (omega (arith, e))
 value_back (negsuc n) (suc v) k e = refl
@@ -199,18 +179,17 @@ unfolding number_text
 shape_of z small =
     let size = unsigned_abs z in
     let whole = size / 10000 in
-    let fits : whole < 2 ^ 64 = omega (arith, small) in
+    let d = digits_of whole 4 (omega arith) (omega arith) (omega (arith, small)) in
     let f = fraction_is (size % 10000) (omega arith) in
     let ds = fraction_digits f.0 in
-    let start : digits_value 10 (decimal whole) ≡ whole = digits_value-decimal own whole fits in
-    let joined : value_of (decimal whole ++ ds) ≡ digits_value_after 10 whole ds = value_after-append 0 (decimal whole) ds ∙ ap (λ (n : ℕ). digits_value_after 10 n ds) start in
+    let joined : value_of (decimal whole ++ ds) ≡ digits_value_after 10 whole ds = value_after-append 0 (decimal whole) ds ∙ ap (λ (n : ℕ). digits_value_after 10 n ds) d.value in
     let value : value_of (decimal whole ++ ds) * 10 ^ (4 - length ds) ≡ size = ap (λ (n : ℕ). n * 10 ^ (4 - length ds)) joined ∙ f.1.3 whole ∙ omega arith in
     record {
       sign = sign_of z;
       front = decimal whole;
       fraction = f.0;
       text = ap (λ (t : List ℕ). t ++ (decimal whole ++ normal.fraction_text (size % 10000))) (minus_is z) ∙ ap (λ (t : List ℕ). sign_text (sign_of z) ++ (decimal whole ++ t)) f.1.0;
-      written = record { before = digits_decimal own whole fits; behind = f.1.1; some = decimal_nonempty whole fits; short = length-decimal-le 4 whole (omega arith) (omega (arith, small)) fits; few = f.1.2; value = value };
+      written = record { before = d.all; behind = f.1.1; some = d.some; short = d.few; few = f.1.2; value = value };
       value = value_back z (value_of (decimal whole ++ ds)) (4 - length ds) value;
     }
 
@@ -244,8 +223,6 @@ lex_number_text z rest small ends =
 
 pub lex_whole : (n : ℕ) (rest : List ℕ) → n ≤ 9999 → EndsNumber rest → lex (decimal n ++ rest) ≡ NumberTok (decimal n) ∷ lex rest
 lex_whole n rest small ends =
-    let fits : n < 2 ^ 64 = omega arith in
-    let all = digits_decimal own n fits in
-    let some = decimal_nonempty n fits in
+    let d = digits_of n 4 (omega arith) (omega arith) (omega (arith, small)) in
     let same : decimal n ++ [] ≡ decimal n = append-nil (decimal n) in
-    subst (λ (t : List ℕ). lex (t ++ rest) ≡ NumberTok t ∷ lex rest) same (lex_number NoSign (decimal n) None rest all refl (omega (arith, some)) ends (digit_begins (decimal n) [] all some))
+    subst (λ (t : List ℕ). lex (t ++ rest) ≡ NumberTok t ∷ lex rest) same (lex_number NoSign (decimal n) None rest d.all refl (omega (arith, d.some)) ends (digit_begins (decimal n) [] d.all d.some))

@@ -18,7 +18,8 @@ use Rattle.rule_reader.specs.Grammar.{standard, Said, plain, naming, words, ◌�
 use Rattle.rule_reader.specs.Normal.{number_text}
 use Rattle.rule_reader.proofs.Good.{words_append}
 use Rattle.rule_reader.proofs.Lexing.{lex, lex_white, lex_mark, lex_name, lex_text}
-use Rattle.rule_reader.proofs.PrintedNumbers.{whole_again, number_back, lex_number_text, lex_whole}
+use Rattle.word_scan.proofs.NumberTexts.{whole_again}
+use Rattle.rule_reader.proofs.PrintedNumbers.{number_back, lex_number_text, lex_whole}
 
 -- ---- what may follow
 
@@ -157,11 +158,11 @@ put_number M {q = q} greatest z le small follows a = chain M (number_text z) q (
 
 pub one_quality : {m n : ℕ} (k : ℕ) → k ≤ 1000 → Prints m n Ends ℕ quality k (decimal k)
 unfolding quality
-one_quality k le = record { said = plain (NumberTok (decimal k)) ∷ []; says = (decimal k, refl, whole_again k 1000 le (omega arith)); spelled = λ rest ends. lex_whole k rest (omega (arith, le)) (ends_number rest ends); hits = (tt, tt) }
+one_quality k le = record { said = plain (NumberTok (decimal k)) ∷ []; says = (decimal k, refl, whole_again k 1000 le (omega (arith, le))); spelled = λ rest ends. lex_whole k rest (omega (arith, le)) (ends_number rest ends); hits = (tt, tt) }
 
 one_index : {m n : ℕ} (bound : Bound) (k : ℕ) → k ≤ 9999 → misses bound k m n ≡ false → Prints m n Ends ℕ (index bound) k (decimal k)
 unfolding index
-one_index bound k le hit = record { said = naming (NumberTok (decimal k)) bound k ∷ []; says = (decimal k, refl, whole_again k 9999 le (omega arith)); spelled = λ rest ends. lex_whole k rest le (ends_number rest ends); hits = (hit, tt) }
+one_index bound k le hit = record { said = naming (NumberTok (decimal k)) bound k ∷ []; says = (decimal k, refl, whole_again k 9999 le (omega (arith, le))); spelled = λ rest ends. lex_whole k rest le (ends_number rest ends); hits = (hit, tt) }
 
 pub put_index : {m n : ℕ} {F : List ℕ → Type 0} {B : Type 0} (M : ℕ → List Said → B → Type 0) {y : B} {q : List ℕ} (bound : Bound) (k : ℕ) → k ≤ 9999 → misses bound k m n ≡ false → ((rest : List ℕ) → F rest → Ends (q ++ rest)) → Prints m n F B (M k) y q
     → Prints m n F B (index bound ▹ M) y (decimal k ++ q)

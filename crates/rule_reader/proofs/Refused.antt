@@ -15,7 +15,7 @@ use Rattle.rule_reader.specs.declared.reader.Use.{Use}
 use Rattle.rule_reader.specs.declared.reader.Fit.{Fit}
 use Rattle.rule_reader.specs.declared.rule.Rule.{Rule}
 use Rattle.rule_reader.specs.Words.{Tok, MarkTok, TextTok, NumberTok, NameTok, BadTok, State, head, begun, at_start}
-use Rattle.rule_reader.specs.Reading.{Read, ◌>>=◌, judged, is_fit, fit_if, name_fit, number_fit, is_at, name_at, number_at}
+use Rattle.rule_reader.specs.Reading.{Read, ◌>>=◌, judged, is_fit, name_fit, number_fit, is_at, name_at, number_at}
 use Rattle.rule_reader.specs.Verdict.{misses, is_bad, loose_starts, verdict, index_verdict, graph_verdict}
 use Rattle.rule_reader.specs.Sections.{tolfak_word, rule_word, endrule_word, tolfak_at, rules_at, file_at, word_number, refusal_of, reading, IsReading}
 use Rattle.rule_reader.specs.Grammar.{Limits, standard, Said, Index, plain, words, ◌▹◌, done, many, at_most, name, tolfak, rule_said, whole_rule, Hits}

@@ -24,7 +24,7 @@ use Rattle.rule_reader.specs.declared.sections.Parts.{Parts}
 use Rattle.rule_reader.specs.declared.sections.SectionKind.{SectionKind}
 use Rattle.rule_reader.specs.declared.sections.SectionKind.TheVariants as kind
 use Rattle.rule_reader.specs.Words.{Tok, MarkTok, TextTok, NumberTok, NameTok, BadTok, State, head}
-use Rattle.rule_reader.specs.Reading.{Read, ◌>>=◌, judged, is_fit, fit_if, mark_fit, name_fit, text_fit, is_number, mark_at, number_at, text_at, term_at, terms_at, entries_at, map_point_at, map_line_at, pair_at, element_at, turn_at}
+use Rattle.rule_reader.specs.Reading.{Read, ◌>>=◌, judged, is_fit, mark_fit, name_fit, text_fit, is_number, mark_at, number_at, text_at, term_at, terms_at, entries_at, map_point_at, map_line_at, pair_at, element_at, turn_at}
 use Rattle.rule_reader.specs.Sections.{empty_parts, section_of, has, fresh, section_fit, rule_of, rule_word, endrule_word}
 use Rattle.rule_reader.specs.Grammar.{Limits, Said, plain, naming, words, ◌▹◌, done, either, many, at_most, mark, text, term, terms, row, rows, place, map_point, map_line, pair, element, turn, content, section, sections, any_sections, rule_name, rule_said}
 use Rattle.rule_reader.specs.Refusals.{kind_of, AtEntry, AtTerm, AtName}

@@ -5,11 +5,10 @@
 pub mod Forms
 pub mod Answered
 pub mod First
--- How the calls read: lists item by item, lines part by part, domain numbers rise; how many words a text has.
+-- How the calls read: lists item by item, lines part by part, domain numbers rise.
 pub mod Loops
 pub mod Steps
 pub mod Rising
-pub mod Count
 -- Viewing: the table of lines, gluing sides one after another, the run that is found is the log's; lines rise, and the least leaves.
 pub mod Kept
 pub mod Sides

@@ -119,10 +119,40 @@ const TO_START_LOOSE: MapLine = MapLine {
     del: true,
 };
 
-// the corners at the ends of the base
+// the corners at the ends of the base and at the third point, and half way from the ends to it
 const FIRST: Corner = Corner(0, 0, 0, 0, 0);
 
 const SECOND: Corner = Corner(10_000, 0, 10_000, 0, 0);
+
+const THIRD: Corner = Corner(5_000, 8_660, 0, 10_000, 10_000);
+
+const LEFT_HALF: Corner = Corner(2_500, 4_330, 0, 5_000, 5_000);
+
+const RIGHT_HALF: Corner = Corner(7_500, 4_330, 5_000, 5_000, 5_000);
+
+// the third points of the rules with two triangles
+const WEST_END: Corner = Corner(-5_000, 8_660, 0, 10_000, 10_000);
+
+const EAST_END: Corner = Corner(15_000, 8_660, 0, 10_000, 10_000);
+
+// new points over the base, lower and lower, and beside a third point
+const NEW: Corner = Corner(5_000, 8_660, 5_000, 0, 0);
+
+const LOWER: Corner = Corner(5_000, 6_000, 5_000, 0, 0);
+
+const LOWEST: Corner = Corner(5_000, 3_500, 5_000, 0, 0);
+
+const BESIDE_WEST: Corner = Corner(5_000, 8_660, 5_000, 5_000, 5_000);
+
+const BESIDE_EAST: Corner = Corner(5_000, 8_660, 0, 5_000, 5_000);
+
+// the triangle over the base, as a zone and as an element
+const TRIANGLE: &[Corner] = &[FIRST, SECOND, THIRD];
+
+const ELEMENT: &[(u64, u64, u64)] = &[(1, 2, 3)];
+
+// the lines from the base's start to the third point, and from there to its end
+const BOTH_SIDES: &[(u32, u32)] = &[(1, 3), (3, 2)];
 
 /// A new point over the base.
 const FREE_1: Plan<'static> = Plan {
@@ -130,8 +160,8 @@ const FREE_1: Plan<'static> = Plan {
     quality: 1,
     points: &[BASE_START, BASE_END],
     lines: &[BASE],
-    new_points: &[Corner(5_000, 8_660, 5_000, 0, 0)],
-    new_lines: &[(1, 3), (3, 2)],
+    new_points: &[NEW],
+    new_lines: BOTH_SIDES,
     area: &[
         FIRST,
         SECOND,
@@ -139,14 +169,8 @@ const FREE_1: Plan<'static> = Plan {
         Corner(5_000, 15_000, 5_000, 0, 0),
         Corner(-5_000, 7_000, 5_000, 0, 0),
     ],
-    limit: &[
-        FIRST,
-        SECOND,
-        Corner(5_000, 8_660, 5_000, 0, 0),
-        Corner(5_000, 8_660, 5_000, 0, 0),
-        Corner(5_000, 8_660, 5_000, 0, 0),
-    ],
-    elements: &[(1, 2, 3)],
+    limit: &[FIRST, SECOND, NEW, NEW, NEW],
+    elements: ELEMENT,
 };
 
 /// A lower new point over the base, from class 5 on.
@@ -155,8 +179,8 @@ const FREE_5: Plan<'static> = Plan {
     quality: 5,
     points: &[BASE_START, BASE_END],
     lines: &[BASE],
-    new_points: &[Corner(5_000, 6_000, 5_000, 0, 0)],
-    new_lines: &[(1, 3), (3, 2)],
+    new_points: &[LOWER],
+    new_lines: BOTH_SIDES,
     area: &[
         FIRST,
         SECOND,
@@ -164,14 +188,8 @@ const FREE_5: Plan<'static> = Plan {
         Corner(5_000, 9_000, 5_000, 0, 0),
         Corner(1_000, 6_000, 5_000, 0, 0),
     ],
-    limit: &[
-        FIRST,
-        SECOND,
-        Corner(5_000, 6_000, 5_000, 0, 0),
-        Corner(5_000, 6_000, 5_000, 0, 0),
-        Corner(5_000, 6_000, 5_000, 0, 0),
-    ],
-    elements: &[(1, 2, 3)],
+    limit: &[FIRST, SECOND, LOWER, LOWER, LOWER],
+    elements: ELEMENT,
 };
 
 /// A new point close to the base, from class 9 on.
@@ -180,8 +198,8 @@ const FREE_9: Plan<'static> = Plan {
     quality: 9,
     points: &[BASE_START, BASE_END],
     lines: &[BASE],
-    new_points: &[Corner(5_000, 3_500, 5_000, 0, 0)],
-    new_lines: &[(1, 3), (3, 2)],
+    new_points: &[LOWEST],
+    new_lines: BOTH_SIDES,
     area: &[
         FIRST,
         SECOND,
@@ -189,14 +207,8 @@ const FREE_9: Plan<'static> = Plan {
         Corner(5_000, 5_000, 5_000, 0, 0),
         Corner(2_000, 3_000, 5_000, 0, 0),
     ],
-    limit: &[
-        FIRST,
-        SECOND,
-        Corner(5_000, 3_500, 5_000, 0, 0),
-        Corner(5_000, 3_500, 5_000, 0, 0),
-        Corner(5_000, 3_500, 5_000, 0, 0),
-    ],
-    elements: &[(1, 2, 3)],
+    limit: &[FIRST, SECOND, LOWEST, LOWEST, LOWEST],
+    elements: ELEMENT,
 };
 
 /// Three lines that are the sides of a triangle.
@@ -207,9 +219,9 @@ const CLOSE: Plan<'static> = Plan {
     lines: &[BASE, FROM_END, TO_START],
     new_points: &[],
     new_lines: &[],
-    area: &[FIRST, SECOND, Corner(5_000, 8_660, 0, 10_000, 10_000)],
+    area: TRIANGLE,
     limit: &[],
-    elements: &[(1, 2, 3)],
+    elements: ELEMENT,
 };
 
 /// Closes the corner at the left of the base.
@@ -224,15 +236,10 @@ const LEFT: Plan<'static> = Plan {
         FIRST,
         SECOND,
         Corner(11_000, 7_500, 5_000, 5_000, 5_000),
-        Corner(5_000, 8_660, 0, 10_000, 10_000),
+        THIRD,
     ],
-    limit: &[
-        FIRST,
-        SECOND,
-        Corner(7_500, 4_330, 5_000, 5_000, 5_000),
-        Corner(5_000, 8_660, 0, 10_000, 10_000),
-    ],
-    elements: &[(1, 2, 3)],
+    limit: &[FIRST, SECOND, RIGHT_HALF, THIRD],
+    elements: ELEMENT,
 };
 
 /// Closes the corner at the right of the base.
@@ -243,19 +250,9 @@ const RIGHT: Plan<'static> = Plan {
     lines: &[BASE, FROM_END],
     new_points: &[],
     new_lines: &[(1, 3)],
-    area: &[
-        FIRST,
-        SECOND,
-        Corner(5_000, 8_660, 0, 10_000, 10_000),
-        Corner(-1_000, 7_500, 0, 5_000, 5_000),
-    ],
-    limit: &[
-        FIRST,
-        SECOND,
-        Corner(5_000, 8_660, 0, 10_000, 10_000),
-        Corner(2_500, 4_330, 0, 5_000, 5_000),
-    ],
-    elements: &[(1, 2, 3)],
+    area: &[FIRST, SECOND, THIRD, Corner(-1_000, 7_500, 0, 5_000, 5_000)],
+    limit: &[FIRST, SECOND, THIRD, LEFT_HALF],
+    elements: ELEMENT,
 };
 
 /// Takes a point of the front that stands over the base.
@@ -265,22 +262,16 @@ const POINT: Plan<'static> = Plan {
     points: &[BASE_START, BASE_END, OVER],
     lines: &[BASE],
     new_points: &[],
-    new_lines: &[(1, 3), (3, 2)],
+    new_lines: BOTH_SIDES,
     area: &[
         FIRST,
         SECOND,
         Corner(11_000, 6_000, 5_000, 5_000, 5_000),
-        Corner(5_000, 8_660, 0, 10_000, 10_000),
+        THIRD,
         Corner(-1_000, 6_000, 0, 5_000, 5_000),
     ],
-    limit: &[
-        FIRST,
-        SECOND,
-        Corner(7_500, 4_330, 5_000, 5_000, 5_000),
-        Corner(5_000, 8_660, 0, 10_000, 10_000),
-        Corner(2_500, 4_330, 0, 5_000, 5_000),
-    ],
-    elements: &[(1, 2, 3)],
+    limit: &[FIRST, SECOND, RIGHT_HALF, THIRD, LEFT_HALF],
+    elements: ELEMENT,
 };
 
 /// Two triangles in a wide corner at the left of the base.
@@ -289,22 +280,16 @@ const TWO_LEFT: Plan<'static> = Plan {
     quality: 1,
     points: &[BASE_START, BASE_END, WEST],
     lines: &[BASE, TO_START],
-    new_points: &[Corner(5_000, 8_660, 5_000, 5_000, 5_000)],
+    new_points: &[BESIDE_WEST],
     new_lines: &[(4, 2), (3, 4)],
     area: &[
         FIRST,
         SECOND,
         Corner(14_000, 9_000, 5_000, 5_000, 5_000),
         Corner(5_000, 16_000, 5_000, 5_000, 5_000),
-        Corner(-5_000, 8_660, 0, 10_000, 10_000),
+        WEST_END,
     ],
-    limit: &[
-        FIRST,
-        SECOND,
-        Corner(5_000, 8_660, 5_000, 5_000, 5_000),
-        Corner(5_000, 8_660, 5_000, 5_000, 5_000),
-        Corner(-5_000, 8_660, 0, 10_000, 10_000),
-    ],
+    limit: &[FIRST, SECOND, BESIDE_WEST, BESIDE_WEST, WEST_END],
     elements: &[(1, 2, 4), (1, 4, 3)],
 };
 
@@ -314,22 +299,16 @@ const TWO_RIGHT: Plan<'static> = Plan {
     quality: 1,
     points: &[BASE_START, BASE_END, EAST],
     lines: &[BASE, FROM_END],
-    new_points: &[Corner(5_000, 8_660, 0, 5_000, 5_000)],
+    new_points: &[BESIDE_EAST],
     new_lines: &[(1, 4), (4, 3)],
     area: &[
         FIRST,
         SECOND,
-        Corner(15_000, 8_660, 0, 10_000, 10_000),
+        EAST_END,
         Corner(5_000, 16_000, 0, 5_000, 5_000),
         Corner(-4_000, 9_000, 0, 5_000, 5_000),
     ],
-    limit: &[
-        FIRST,
-        SECOND,
-        Corner(15_000, 8_660, 0, 10_000, 10_000),
-        Corner(5_000, 8_660, 0, 5_000, 5_000),
-        Corner(5_000, 8_660, 0, 5_000, 5_000),
-    ],
+    limit: &[FIRST, SECOND, EAST_END, BESIDE_EAST, BESIDE_EAST],
     elements: &[(1, 2, 4), (2, 3, 4)],
 };
 
@@ -341,9 +320,9 @@ const LEFT_6: Plan<'static> = Plan {
     lines: &[BASE, TO_START_LOOSE],
     new_points: &[],
     new_lines: &[(3, 2)],
-    area: &[FIRST, SECOND, Corner(5_000, 8_660, 0, 10_000, 10_000)],
+    area: TRIANGLE,
     limit: &[],
-    elements: &[(1, 2, 3)],
+    elements: ELEMENT,
 };
 
 /// Closes the corner at the right, with loose tolerances, from class 6 on.
@@ -354,9 +333,9 @@ const RIGHT_6: Plan<'static> = Plan {
     lines: &[BASE, FROM_END_LOOSE],
     new_points: &[],
     new_lines: &[(1, 3)],
-    area: &[FIRST, SECOND, Corner(5_000, 8_660, 0, 10_000, 10_000)],
+    area: TRIANGLE,
     limit: &[],
-    elements: &[(1, 2, 3)],
+    elements: ELEMENT,
 };
 
 /// Takes any point of the front near the base, from class 8 on.
@@ -366,10 +345,10 @@ const ANY_POINT: Plan<'static> = Plan {
     points: &[BASE_START, BASE_END, OVER_LOOSEST],
     lines: &[BASE],
     new_points: &[],
-    new_lines: &[(1, 3), (3, 2)],
-    area: &[FIRST, SECOND, Corner(5_000, 8_660, 0, 10_000, 10_000)],
+    new_lines: BOTH_SIDES,
+    area: TRIANGLE,
     limit: &[],
-    elements: &[(1, 2, 3)],
+    elements: ELEMENT,
 };
 
 /// The twelve rules, in their order.

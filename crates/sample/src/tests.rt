@@ -10,6 +10,7 @@ fn the_text_of_the_twelve_rules(rt: HostRuntime) -> Result<(), Fail> {
     let read = read_rules(rt.alloc(), TWELVE)
         .ok()
         .ok_or("the text is admitted")?;
+    assert_eq!(rt; read.as_slice().len(), 12);
     let held = twelve_rules(rt.alloc())?;
     let text = print_rules(rt.alloc(), &read)?;
     let same = print_rules(rt.alloc(), &held)?;

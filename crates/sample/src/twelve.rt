@@ -116,6 +116,14 @@ fn rules_of(alloc: Global, plans: &[Plan<'_>]) -> Result<Rules, OutOfMemory>
     Ok(Rules::from_vec(rules))
 }
 
+/// The rules of the tables, which are the twelve.
+#[tactic(auto, unfolding(crate::specs::Twelve::twelve, crate::specs::Twelve::free_1, crate::specs::Twelve::free_5, crate::specs::Twelve::free_9, crate::specs::Twelve::close, crate::specs::Twelve::left, crate::specs::Twelve::right, crate::specs::Twelve::over, crate::specs::Twelve::two_left, crate::specs::Twelve::two_right, crate::specs::Twelve::left_6, crate::specs::Twelve::right_6, crate::specs::Twelve::any_point))]
+fn held(alloc: Global) -> Result<Rules, OutOfMemory>
+    ensures { IfOk result (λ rules. rules ≡ twelve) }
+{
+    rules_of(alloc, &PLANS)
+}
+
 /// The twelve rules.
 ///
 /// # Errors
@@ -125,5 +133,5 @@ pub fn twelve_rules(alloc: Global) -> Result<Rules, OutOfMemory>
     ensures value { IfOk result (λ rules. rules ≡ twelve) }
     ensures printable { IfOk result CanPrint }
 {
-    rules_of(alloc, &PLANS)
+    held(alloc)
 }

@@ -22,7 +22,9 @@ use Rattle.vol_format.proofs.Meshes.{at_most}
 use Rattle.vol_format.proofs.Texts.{whole0, whole2, place_in}
 use Rattle.vol_format.specs.Reading.{NeedPlace}
 use Rattle.vol_format.proofs.Asks.{got_says}
-use Rattle.vol_format.proofs.Printed.{plain_byte, plain_bytes, run_of, number_says, number_run, coordinate_says, coordinate_run}
+use Rattle.word_scan.proofs.PlainWords.{plain_byte, plain_bytes, run_of}
+use Rattle.word_scan.proofs.NumberTexts.{number_run}
+use Rattle.vol_format.proofs.Printed.{number_says, coordinate_says, coordinate_run}
 
 -- bytes that are words, each with a white byte behind it, which say these items
 record Prints (k : ℕ) (bytes : List ℕ) (items : List Item) : Type 0 where

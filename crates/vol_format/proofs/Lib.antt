@@ -1,6 +1,6 @@
 -- ---- the functions of the reader
 
--- the numbers and the words of a text
+-- whole numbers
 pub mod Words
 -- grid steps of decimals
 pub mod Divided

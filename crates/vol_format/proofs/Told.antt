@@ -7,7 +7,7 @@ use Rattle.std.proofs.lemmas.Slice.Zip.{AllZip-long}
 use Rattle.word_scan.specs.Numerals.{is_whole}
 use Rattle.word_scan.specs.Bytes.{bytes_of}
 use Rattle.word_scan.specs.Scan.{spaced_words, words_of}
-use Rattle.word_scan.proofs.Laws.{reads_text}
+use Rattle.word_scan.proofs.Laws.{few_words}
 use Rattle.vol_format.specs.declared.Mesh.{Mesh}
 use Rattle.vol_format.specs.declared.refusal.VolRefusal.{VolRefusal}
 use Rattle.vol_format.specs.declared.refusal.VolRefusal.TheVariants.{Syntax, Number as NumberAt, TooMany, BadIndex, Memory}
@@ -15,7 +15,7 @@ use Rattle.vol_format.specs.Vol.{places}
 use Rattle.vol_format.specs.Text.{Word, Says, mesh_items, Derives, Known}
 use Rattle.vol_format.specs.Refusals.{Stops, IsNumber, Refuses}
 use Rattle.vol_format.specs.Reading.{Need, NeedWord, NeedNumber, NeedPoint, NeedCount, NeedPlace, Given, got, refused, Form, Leaf, Ask, State, run, ended, ended_at, at_start, mesh_at, known, mesh_of, Gives}
-use Rattle.vol_format.proofs.Words.{told_whole, whole_told, few_words}
+use Rattle.vol_format.proofs.Words.{told_whole, whole_told}
 use Rattle.vol_format.proofs.Asks.{item_of}
 use Rattle.vol_format.proofs.Leads.{spot, Reach, Outcome, Done, Short, Wrong, outcome}
 use Rattle.vol_format.proofs.Meshes.{mesh_form}
@@ -184,4 +184,4 @@ items_few shift text k m start st u decimals begins read end =
     let words = words_of text in
     let whole : mesh_at shift (at_start (places shift) words) ≡ Ok (m, st) = ap (mesh_at shift) (sym (begins ∙ ap (λ (n : ℕ). at_start n words) decimals)) ∙ read in
     let d = ok_derives shift words m (outcome (places shift) 1 (mesh_form shift) words) (ap ended whole ∙ ended_ok m st.at st.left u end) in
-    omega (arith, AllZip-long (Says (places shift)) words (mesh_items m) d.says, length-map (spaced_words text) (bytes_of text), few_words text (spaced_words text) (reads_text text))
+    omega (arith, AllZip-long (Says (places shift)) words (mesh_items m) d.says, length-map (spaced_words text) (bytes_of text), few_words text)

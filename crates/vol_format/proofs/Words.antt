@@ -1,14 +1,11 @@
--- What single words say, and how many words a text has.
-use Rattle.std.proofs.Common.{◌≡◌, ℕ, ◌+◌, ◌^◌, ◌<◌, ◌≤◌, Bool, true, false, ◌&&◌, List, [], ◌∷◌, length, refl, ap, nat_lt, arith}
+-- What single words say.
+use Rattle.std.proofs.Common.{◌≡◌, ℕ, ◌^◌, ◌<◌, Bool, true, false, ◌&&◌, List, length, refl, nat_lt, arith}
 use Rattle.std.specs.Prelude.{nat_le}
 use Rattle.std.specs.Option.{is_some}
 use Rattle.std.proofs.lemmas.Bool.{le-leb, lt-ltb, leb-true, ltb-true, and_parts}
 use Rattle.std.specs.Str.{all_ascii_digits}
 use Rattle.std.proofs.lemmas.Str.Parse.{tells_all_ascii_digits, numerals_by_value, digits_value_short}
-use Rattle.std.proofs.lemmas.List.{length-append}
-use Rattle.word_scan.specs.declared.scanner.Word.{Word}
 use Rattle.word_scan.specs.Numerals.{IsWhole, value_of, is_whole, whole_of}
-use Rattle.word_scan.specs.Parts.{Part, Space, Note, Run, AreParts, spelling, places, Reads}
 
 -- thirteen digits write a number below 10^13
 pub whole_below : (word : List ℕ) → IsWhole word → value_of word < 10 ^ 13
@@ -30,15 +27,3 @@ any_by word false e = rw e refl
 -- each whole number is at most the greatest of thirteen digits
 pub any_whole : (word : List ℕ) → is_some (whole_of word 9999999999999) ≡ is_whole word
 any_whole word = any_by word (is_whole word) refl
-
--- a text has no more words than bytes
-few_places : (at i : ℕ) (parts : List Part) → AreParts parts → length (places at i parts) ≤ length (spelling parts)
-few_places at i [] are = omega arith
-few_places at i (Space b ∷ parts) are = omega (arith, few_places at (i + 1) parts are.1)
-few_places at i (Note bytes ∷ parts) are = omega (arith, few_places at (i + 1 + length bytes) parts are.2, length-append bytes (spelling parts))
-few_places at i (Run bytes ∷ parts) are = omega (arith, few_places (at + 1) (i + length bytes) parts are.2, length-append bytes (spelling parts), are.0.some)
-
-pub few_words : (text : List ℕ) (words : List Word) → Reads text words → length words ≤ length text
-few_words text words reads =
-    let (parts, are, same) = reads.some in
-    omega (arith, ap length (reads.only parts are same), few_places 1 0 parts are, ap length same)

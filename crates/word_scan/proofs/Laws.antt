@@ -1,5 +1,5 @@
 -- The walk over a text in the spaced style gives the words of its parts.
-use Rattle.std.proofs.Common.{◌≡◌, ◌≢◌, ℕ, suc, ◌+◌, ◌-◌, Bool, true, false, eqb, List, [], ◌∷◌, ◌++◌, length, map, refl, sym, ap, subst, ◌∙◌, arith, append_assoc, length-append}
+use Rattle.std.proofs.Common.{◌≡◌, ◌≢◌, ℕ, suc, ◌+◌, ◌-◌, ◌≤◌, Bool, true, false, eqb, List, [], ◌∷◌, ◌++◌, length, map, refl, sym, ap, subst, ◌∙◌, arith, append_assoc, length-append}
 use Rattle.std.specs.List.{AllByRecursion}
 use Rattle.std.proofs.lemmas.Bool.{ne_eqb, eqb-true, eqb-false}
 use Rattle.std.proofs.lemmas.List.{take_at, drop_at}
@@ -155,3 +155,17 @@ reads_text text =
       only = places_are;
       bytes = λ parts fit e. rw (places_are parts fit e) (bytes_of_places text [] 1 0 parts (sym e) refl);
     }
+
+-- ---- a text has no more words than bytes
+
+few_places : (at i : ℕ) (parts : List Part) → AreParts parts → length (places at i parts) ≤ length (spelling parts)
+few_places at i [] are = omega arith
+few_places at i (Space b ∷ parts) are = omega (arith, few_places at (i + 1) parts are.1)
+few_places at i (Note bytes ∷ parts) are = omega (arith, few_places at (i + 1 + length bytes) parts are.2, length-append bytes (spelling parts))
+few_places at i (Run bytes ∷ parts) are = omega (arith, few_places (at + 1) (i + length bytes) parts are.2, length-append bytes (spelling parts), are.0.some)
+
+pub few_words : (text : List ℕ) → length (spaced_words text) ≤ length text
+few_words text =
+    let reads = reads_text text in
+    let (parts, are, same) = reads.some in
+    omega (arith, ap length (reads.only parts are same), few_places 1 0 parts are, ap length same)

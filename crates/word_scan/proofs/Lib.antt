@@ -1,9 +1,15 @@
+-- The proofs, by theme. Public are what crates above may cite where no law says it.
+--
 -- ---- words in the spaced style
 
 -- the walk over a text, byte by byte
 pub mod Walk
 -- the words that the walk gives are those of the text's parts
 pub mod Laws
+-- bytes that are neither white nor begin a comment make a word
+pub mod PlainWords
+-- the words of a text in which each word has one white byte beside it
+pub mod Spelled
 -- where a run of bytes stops
 pub mod Prefixes
 -- ---- tokens
@@ -22,6 +28,8 @@ pub mod TokenReading
 pub mod Runs
 -- a decimal is what its parts spell
 pub mod DecimalLaws
+-- a number is written in digits, and read as the number that it was
+pub mod NumberTexts
 -- ---- lists
 
 -- two places in one list

@@ -1,17 +1,12 @@
 -- A walk over a text in the tokens style, byte by byte.
-use Rattle.std.proofs.Common.{◌≡◌, ◌≢◌, ℕ, zero, suc, ◌+◌, ◌-◌, ◌<◌, ◌≤◌, Bool, true, false, not, eqb, List, [], ◌∷◌, length, get_or, drop, Some, None, refl, sym, ap, ◌∙◌, add-zero, take, arith}
+use Rattle.std.proofs.Common.{◌≡◌, ◌≢◌, ℕ, zero, suc, ◌+◌, ◌-◌, ◌<◌, ◌≤◌, true, List, [], ◌∷◌, length, get_or, drop, Some, None, refl, sym, ap, ◌∙◌, add-zero, take, arith}
 use Rattle.std.proofs.lemmas.List.{at_drop_more, at_drop_all, drop_more, take_all, length-drop}
-use Rattle.std.proofs.lemmas.Bool.{ne_eqb, eqb-true, eqb-false}
+use Rattle.std.proofs.lemmas.Bool.{ne_eqb}
 use Rattle.word_scan.specs.declared.scanner.Kind.{Kind}
 use Rattle.word_scan.specs.declared.scanner.ScanRefusal.TheVariants.{End, BadWord}
 use Rattle.word_scan.specs.Bytes.{is_white}
 use Rattle.word_scan.specs.Scan.{StartsWord}
 use Rattle.word_scan.specs.Tokens.{TokenMode, InRemark, Past, token_at, token_word, put_first, given, tokens_from}
-
--- in a comment or where a token may begin
-abbrev pub token_mode : Bool → TokenMode
-token_mode true = InRemark
-token_mode false = Past 0
 
 pub token_step : (mode : TokenMode) (at i : ℕ) (text : List ℕ) → i < length text → tokens_from mode at i (drop i text) ≡ tokens_from mode at i (get_or text i 0 ∷ drop (i + 1) text)
 token_step mode at i text inside = at_drop_more (tokens_from mode at i) text i 0 inside
@@ -19,7 +14,7 @@ token_step mode at i text inside = at_drop_more (tokens_from mode at i) text i 0
 pub token_walk_end : (mode : TokenMode) (at i : ℕ) (text : List ℕ) → length text ≤ i → tokens_from mode at i (drop i text) ≡ tokens_from mode at i []
 token_walk_end mode at i text past = at_drop_all (tokens_from mode at i) text i past
 
-remark_goes_on : (at i : ℕ) (text : List ℕ) → i < length text → get_or text i 0 ≢ 10 → tokens_from InRemark at i (drop i text) ≡ tokens_from InRemark at (i + 1) (drop (i + 1) text)
+pub remark_goes_on : (at i : ℕ) (text : List ℕ) → i < length text → get_or text i 0 ≢ 10 → tokens_from InRemark at i (drop i text) ≡ tokens_from InRemark at (i + 1) (drop (i + 1) text)
 unfolding tokens_from
 remark_goes_on at i text inside other = token_step InRemark at i text inside ∙ rw (ne_eqb _ _ other) refl
 
@@ -27,32 +22,21 @@ remark_ends : (at i : ℕ) (text : List ℕ) → i < length text → get_or text
 unfolding tokens_from
 remark_ends at i text inside feed = token_step InRemark at i text inside ∙ rw feed refl
 
-after_remark_byte : (feed : Bool) (at i : ℕ) (text : List ℕ) → i < length text → eqb (get_or text i 0) 10 ≡ feed → tokens_from InRemark at i (drop i text) ≡ tokens_from (token_mode (not feed)) at (i + 1) (drop (i + 1) text)
-after_remark_byte true at i text inside e = remark_ends at i text inside (eqb-true _ _ e)
-after_remark_byte false at i text inside e = remark_goes_on at i text inside (eqb-false _ _ e)
-
-space_is_passed : (at i : ℕ) (text : List ℕ) → i < length text → is_white (get_or text i 0) ≡ true → tokens_from (Past 0) at i (drop i text) ≡ tokens_from (Past 0) at (i + 1) (drop (i + 1) text)
+pub space_is_passed : (at i : ℕ) (text : List ℕ) → i < length text → is_white (get_or text i 0) ≡ true → tokens_from (Past 0) at i (drop i text) ≡ tokens_from (Past 0) at (i + 1) (drop (i + 1) text)
 unfolding tokens_from
 space_is_passed at i text inside white = token_step (Past 0) at i text inside ∙ rw white refl
 
-remark_begins : (at i : ℕ) (text : List ℕ) → i < length text → get_or text i 0 ≡ 35 → tokens_from (Past 0) at i (drop i text) ≡ tokens_from InRemark at (i + 1) (drop (i + 1) text)
+pub remark_begins : (at i : ℕ) (text : List ℕ) → i < length text → get_or text i 0 ≡ 35 → tokens_from (Past 0) at i (drop i text) ≡ tokens_from InRemark at (i + 1) (drop (i + 1) text)
 unfolding tokens_from
 remark_begins at i text inside mark = token_step (Past 0) at i text inside ∙ rw mark refl
 
--- one byte of a gap: in a comment, at the mark that begins one, and at white space
+-- a comment ends at a line feed, which is white space, or at the end of the text
+pub remark_stops : (at i : ℕ) (text : List ℕ) → i < length text → get_or text i 0 ≡ 10 → tokens_from InRemark at i (drop i text) ≡ tokens_from (Past 0) at i (drop i text)
+remark_stops at i text inside feed = remark_ends at i text inside feed ∙ sym (space_is_passed at i text inside (ap is_white feed))
 
-pub remark_byte : (before after : Bool) (at i : ℕ) (text : List ℕ) → i < length text → before ≡ true → after ≡ not (eqb (get_or text i 0) 10) → tokens_from (token_mode before) at i (drop i text) ≡ tokens_from (token_mode after) at (i + 1) (drop (i + 1) text)
-remark_byte before after at i text inside b a = rw (b, a) (after_remark_byte (eqb (get_or text i 0) 10) at i text inside refl)
-
-pub remark_mark : (before after : Bool) (at i : ℕ) (text : List ℕ) → i < length text → before ≡ false → after ≡ true → get_or text i 0 ≡ 35 → tokens_from (token_mode before) at i (drop i text) ≡ tokens_from (token_mode after) at (i + 1) (drop (i + 1) text)
-remark_mark before after at i text inside b a mark = rw (b, a) (remark_begins at i text inside mark)
-
-pub space_byte : (before after : Bool) (at i : ℕ) (text : List ℕ) → i < length text → before ≡ false → after ≡ before → is_white (get_or text i 0) ≡ true → tokens_from (token_mode before) at i (drop i text) ≡ tokens_from (token_mode after) at (i + 1) (drop (i + 1) text)
-space_byte before after at i text inside b a white = rw (a, b) (space_is_passed at i text inside white)
-
-pub token_gap_ends : (in_note : Bool) (at i : ℕ) (text : List ℕ) → length text ≤ i → tokens_from (token_mode in_note) at i (drop i text) ≡ tokens_from (Past 0) at i (drop i text)
-token_gap_ends true at i text past = token_walk_end InRemark at i text past ∙ unfold tokens_from in sym (token_walk_end (Past 0) at i text past)
-token_gap_ends false at i text past = refl
+pub remark_stops_all : (at i : ℕ) (text : List ℕ) → length text ≤ i → tokens_from InRemark at i (drop i text) ≡ tokens_from (Past 0) at i (drop i text)
+unfolding tokens_from
+remark_stops_all at i text past = token_walk_end InRemark at i text past ∙ sym (token_walk_end (Past 0) at i text past)
 
 -- the bytes of a token are passed
 pub token_passed : (n at i : ℕ) (text : List ℕ) → i + n ≤ length text → tokens_from (Past n) at i (drop i text) ≡ tokens_from (Past 0) at (i + n) (drop (i + n) text)

@@ -5,7 +5,7 @@
 -- spelling      the bytes of the parts
 -- value         the number that the parts write
 -- decimal_of    the decimal that a word writes, where it is one
-use Rattle.std.specs.Prelude.{◌≡◌, ℕ, ◌+◌, ◌<◌, ◌≤◌, ◌⊎◌, Bool, true, false, ◌&&◌, ◌||◌, ◌==◌, nat_lt, nat_le, if◌then◌else◌, List, [], ◌∷◌, ◌++◌, length, take, drop, Option, Some, None, ℤ, pos, neg_ℤ, ◌-ℤ◌, unsigned_abs}
+use Rattle.std.specs.Prelude.{◌≡◌, ℕ, ◌+◌, ◌<◌, ◌≤◌, ◌⊎◌, Bool, true, false, ◌&&◌, ◌||◌, ◌==◌, nat_lt, nat_le, if◌then◌else◌, List, [], ◌∷◌, ◌++◌, length, take, drop, Option, Some, None, ℤ, pos, negsuc, neg_ℤ, ◌-ℤ◌, unsigned_abs}
 use Rattle.std.specs.List.{prefix_len}
 use Rattle.std.specs.Char.{is_ascii_digit}
 use Rattle.std.specs.Str.{all_ascii_digits}
@@ -42,6 +42,11 @@ fraction_text (Some digits) = 46 ∷ digits
 abbrev pub power_text : Option Power → List ℕ
 power_text None = []
 power_text (Some power) = power.letter ∷ (sign_text power.sign ++ power.digits)
+
+-- a number's sign
+abbrev pub sign_of : ℤ → Sign
+sign_of (pos n) = NoSign
+sign_of (negsuc n) = Minus
 
 -- the bytes of the parts
 abbrev pub spelling : DecimalParts → List ℕ

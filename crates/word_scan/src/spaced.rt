@@ -2,14 +2,32 @@
 
 ghost use Rattle.std.specs.Prelude.{◌≡◌, ℕ, ◌+◌, ◌<◌, ◌≤◌, ◌∷◌, length, drop, slice_index};
 ghost use Rattle.word_scan.specs.Bytes.{is_white, plain};
-ghost use Rattle.word_scan.specs.Tokens.{Past, tokens_from};
-ghost use Rattle.word_scan.specs.Scan.{Between, words_from, StartsWord};
+ghost use Rattle.word_scan.specs.Tokens.{InRemark, Past, tokens_from};
+ghost use Rattle.word_scan.specs.Scan.{Between, InNote, words_from, StartsWord};
 
 /// White space is space, tab, carriage return and line feed.
 fn is_white(byte: u8) -> bool
     ensures { result ≡ is_white byte }
 {
     matches!(byte, b' ' | b'\t' | b'\r' | b'\n')
+}
+
+/// Where the comment ends whose bytes stand from `start` on: at the next line feed, or at the end.
+fn note_end(text: &[u8], start: usize) -> usize
+    requires { start ≤ length text.now }
+    ensures from { start ≤ result }
+    ensures within { result ≤ length text.now }
+    ensures same { (at : ℕ) → words_from InNote at start (drop start text.now)
+        ≡ words_from Between at result (drop result text.now) }
+    ensures tokens { (at : ℕ) →
+        tokens_from InRemark at start (drop start text.now)
+        ≡ tokens_from (Past 0) at result (drop result text.now) }
+{
+    let mut end = start;
+    while end < text.len() && text[end] != b'\n' {
+        end += 1;
+    }
+    end
 }
 
 /// Where the white space and the comments that stand at `start` end.
@@ -25,17 +43,14 @@ pub fn gap_end(text: &[u8], start: usize) -> usize
     ensures word { StartsWord (drop result text.now) }
 {
     let mut end = start;
-    let mut in_comment = false;
     while end < text.len() {
-        let byte = text[end];
-        if in_comment {
-            in_comment = byte != b'\n';
-        } else if byte == b'#' {
-            in_comment = true;
-        } else if !is_white(byte) {
+        if is_white(text[end]) {
+            end += 1;
+        } else if text[end] == b'#' {
+            end = note_end(text, end + 1);
+        } else {
             return end;
         }
-        end += 1;
     }
     end
 }

@@ -1,14 +1,12 @@
 use Rattle.std.proofs.Common.{length, ◌-◌, ◌≡◌, ℕ, ◌≤◌, drop}
 use Rattle.word_scan.specs.Scan.{Between, words_from}
 use Rattle.word_scan.specs.Tokens.{Past, tokens_from}
-use Rattle.word_scan.proofs.TokenWalk.{token_mode}
-use Rattle.word_scan.proofs.Walk.{mode_of}
 use Rattle.word_scan.proofs.spaced.gap_end.Given as goal
 
 abbrev pub invariant-loop-end : goal.invariant-loop-end
 invariant-loop-end l = (l.start ≤ l.end) × (l.end ≤ length l.text)
-    × ((at : ℕ) → words_from Between at l.start (drop l.start l.text) ≡ words_from (mode_of l.in_comment) at l.end (drop l.end l.text))
-    × ((at : ℕ) → tokens_from (Past 0) at l.start (drop l.start l.text) ≡ tokens_from (token_mode l.in_comment) at l.end (drop l.end l.text))
+    × ((at : ℕ) → words_from Between at l.start (drop l.start l.text) ≡ words_from Between at l.end (drop l.end l.text))
+    × ((at : ℕ) → tokens_from (Past 0) at l.start (drop l.start l.text) ≡ tokens_from (Past 0) at l.end (drop l.end l.text))
 
 abbrev pub decreases-loop-end : goal.decreases-loop-end
 decreases-loop-end l = length l.text - l.end
