@@ -1,97 +1,22 @@
--- The numbers of the lines near a box, as the front's walk meets them and then sorted: they are those of the near lines in order of making. Of distinct numbers the walk leaves out none and has none twice; ascending lists in which each number stands equally often are equal.
+-- The numbers of the lines near a box, sorted: they are those of the near lines in order of making. The front tells each near line once; ascending lists in which each number stands equally often are equal.
 use Prim.Native.Nat.{ℕ, zero, suc, ◌+◌, ◌≤◌, ◌<◌}
-use lib.ListN.{drop, length, get_or}
+use lib.ListN.{length, get_or}
 use mathlib.Core.Path.{◌≡◌, refl, sym, ap, ◌∙◌, subst}
-use mathlib.Core.Bool.{Bool, true, false, cond, not, ◌||◌}
-use mathlib.Core.List.{List, [], ◌∷◌, ◌++◌, map}
+use mathlib.Core.Bool.{Bool, true, false, cond, ◌||◌}
+use mathlib.Core.List.{List, [], ◌∷◌, map}
 use native.Mathlib.Omega.{arith}
-use Rattle.std.specs.Prelude.{nat_eq, filter, Option, Some, None, is_some}
+use Rattle.std.specs.Prelude.{nat_eq, filter, Some, is_some}
 use Rattle.std.specs.Option.{option_map_or}
-use Rattle.std.specs.List.{AllByRecursion, IsDistinct, find, list_any, after_first, position_or_len, sum_by}
+use Rattle.std.specs.List.{AllByRecursion, IsDistinct, list_any, sum_by}
 use Rattle.std.specs.List.Sorted.{IsPermutation, IsNonDecreasingBy}
 use Rattle.std.proofs.lemmas.Map.Keys.{IsDistinct-head, IsDistinct-tail}
 use Rattle.std.proofs.lemmas.List.Recursion.{is_sum_by}
 use Rattle.std.proofs.lemmas.List.Sorted.{sum_by-IsPermutation}
 use Rattle.grid_geom.specs.declared.Bounds.{Bounds}
 use Rattle.state_law.specs.State.{AreRising}
-use Rattle.front_chain.specs.Front.{FrontState, IsFrontState, line_at, is_near}
+use Rattle.front_chain.specs.Front.{FrontState, IsFrontState, AreNear, line_at}
 use Rattle.admission.specs.Around.{drawn, drawn_at, is_close, lines_near, numbers_near}
 use Rattle.admission.proofs.Ahead.{Triple, eq_self, eq_less, line_here, line_later}
-
--- ---- a walk
--- what a walk that stands at a number has still to meet: of distinct numbers, that one and those after it that pass
-abbrev pub still_met : (ℕ → Bool) → List ℕ → Option ℕ → List ℕ
-still_met P walk None = []
-still_met P walk (Some n) = n ∷ filter P (after_first (nat_eq n) walk)
-
-found_has : (P : ℕ → Bool) (Q : ℕ → Type 0) (xs : List ℕ) (n : ℕ) → AllByRecursion Q xs → find P xs ≡ Some n → Q n
-found_has P Q [] n h e = absurd (cc)
-found_has P Q (x ∷ xs) n h e = by (P x) e (found_has P Q xs n h.1)
-  where
-    one : (m n : ℕ) → Some m ≡ Some n → m ≡ n
-    one m n e = cc
-
-    by : (b : Bool) → cond b (Some x) (find P xs) ≡ Some n → (find P xs ≡ Some n → Q n) → Q n
-    by true k later = subst Q (one x n k) h.0
-    by false k later = later k
-
-rest_has : (Q : ℕ → Type 0) (k : ℕ) (xs : List ℕ) → AllByRecursion Q xs → AllByRecursion Q (drop k xs)
-rest_has Q zero [] h = tt
-rest_has Q zero (x ∷ xs) h = h
-rest_has Q (suc k) [] h = tt
-rest_has Q (suc k) (x ∷ xs) h = rest_has Q k xs h.1
-
-after_here : (n x : ℕ) (xs : List ℕ) → nat_eq n x ≡ true → after_first (nat_eq n) (x ∷ xs) ≡ xs
-after_here n x xs e = ap (λ (b : Bool). drop (cond (not b) (1 + position_or_len (nat_eq n) xs) 0 + 1) (x ∷ xs)) e
-
-after_later : (n x : ℕ) (xs : List ℕ) → nat_eq n x ≡ false → after_first (nat_eq n) (x ∷ xs) ≡ after_first (nat_eq n) xs
-after_later n x xs e = ap (λ (b : Bool). drop (cond (not b) (1 + position_or_len (nat_eq n) xs) 0 + 1) (x ∷ xs)) e ∙ ap (λ (k : ℕ). drop k (x ∷ xs)) (one_more (position_or_len (nat_eq n) xs))
-  where
-    one_more : (k : ℕ) → (1 + k) + 1 ≡ suc (k + 1)
-    one_more k = omega arith
-
-flip : (m n : ℕ) → nat_eq m n ≡ false → nat_eq n m ≡ false
-flip m n h = grind arith
-
--- a number before the walk's place changes nothing
-lift : (P : ℕ → Bool) (x : ℕ) (xs ys : List ℕ) → AllByRecursion (λ m. nat_eq x m ≡ false) ys → still_met P (x ∷ xs) (find P ys) ≡ still_met P xs (find P ys)
-lift P x xs ys h = by (find P ys) refl
-  where
-    by : (o : Option ℕ) → find P ys ≡ o → still_met P (x ∷ xs) o ≡ still_met P xs o
-    by None e = refl
-    by (Some n) e = ap (λ (zs : List ℕ). n ∷ filter P zs) (after_later n x xs (flip x n (found_has P (λ m. nat_eq x m ≡ false) ys n h e)))
-
-pub first_met : (P : ℕ → Bool) (xs : List ℕ) → IsDistinct nat_eq xs → filter P xs ≡ still_met P xs (find P xs)
-first_met P [] d = refl
-first_met P (x ∷ xs) d = by (P x) (first_met P xs (IsDistinct-tail nat_eq x xs d))
-  where
-    by : (b : Bool) → filter P xs ≡ still_met P xs (find P xs) → cond b (x ∷ filter P xs) (filter P xs) ≡ still_met P (x ∷ xs) (cond b (Some x) (find P xs))
-    by true later = ap (λ (zs : List ℕ). x ∷ filter P zs) (sym (after_here x x xs (eq_self x)))
-    by false later = later ∙ sym (lift P x xs xs (IsDistinct-head nat_eq x xs d))
-
-next_met : (P : ℕ → Bool) (xs : List ℕ) (n : ℕ) → IsDistinct nat_eq xs → filter P (after_first (nat_eq n) xs) ≡ still_met P xs (find P (after_first (nat_eq n) xs))
-next_met P [] n d = refl
-next_met P (x ∷ xs) n d = by (nat_eq n x) refl (next_met P xs n (IsDistinct-tail nat_eq x xs d))
-  where
-    by : (b : Bool) → nat_eq n x ≡ b → filter P (after_first (nat_eq n) xs) ≡ still_met P xs (find P (after_first (nat_eq n) xs)) → filter P (after_first (nat_eq n) (x ∷ xs)) ≡ still_met P (x ∷ xs) (find P (after_first (nat_eq n) (x ∷ xs)))
-    by true e later = subst (λ (zs : List ℕ). filter P zs ≡ still_met P (x ∷ xs) (find P zs)) (sym (after_here n x xs e)) (first_met P xs (IsDistinct-tail nat_eq x xs d) ∙ sym (lift P x xs xs (IsDistinct-head nat_eq x xs d)))
-    by false e later = subst (λ (zs : List ℕ). filter P zs ≡ still_met P (x ∷ xs) (find P zs)) (sym (after_later n x xs e)) (later
-        ∙ sym (lift P x xs (after_first (nat_eq n) xs) (rest_has (λ m. nat_eq x m ≡ false) (position_or_len (nat_eq n) xs + 1) xs (IsDistinct-head nat_eq x xs d))))
-
--- one number more is met
-pub met_on : (P : ℕ → Bool) (walk met : List ℕ) (n : ℕ) (next : Option ℕ) → IsDistinct nat_eq walk → next ≡ find P (after_first (nat_eq n) walk) → met ++ still_met P walk (Some n) ≡ filter P walk → (met ++ n ∷ []) ++ still_met P walk next ≡ filter P walk
-met_on P walk met n next d e k = ap (λ (o : Option ℕ). (met ++ n ∷ []) ++ still_met P walk o) e ∙ ap (λ (zs : List ℕ). (met ++ n ∷ []) ++ zs) (sym (next_met P walk n d)) ∙ joined met ∙ k
-  where
-    joined : (xs : List ℕ) → (xs ++ n ∷ []) ++ filter P (after_first (nat_eq n) walk) ≡ xs ++ n ∷ filter P (after_first (nat_eq n) walk)
-    joined [] = refl
-    joined (x ∷ xs) = ap (λ (zs : List ℕ). x ∷ zs) (joined xs)
-
--- and fewer are left
-pub met_fewer : (P : ℕ → Bool) (walk : List ℕ) (n : ℕ) (next : Option ℕ) → IsDistinct nat_eq walk → next ≡ find P (after_first (nat_eq n) walk) → length (still_met P walk next) < length (still_met P walk (Some n))
-met_fewer P walk n next d e = subst (λ (zs : List ℕ). length zs < length (n ∷ filter P (after_first (nat_eq n) walk))) (next_met P walk n d ∙ ap (still_met P walk) (sym e)) (less (length (filter P (after_first (nat_eq n) walk))))
-  where
-    less : (k : ℕ) → k < suc k
-    less k = omega arith
 
 -- ---- ascending lists
 -- each number is at most each after it
@@ -186,37 +111,8 @@ often_sorted n xs ys p = is_sum ys ∙ sum_by-IsPermutation (λ x. cond (nat_eq 
     is_sum zs = is_sum_by (often n) (λ x. cond (nat_eq n x) 1 0) refl (λ x xs. refl) zs
 
 -- ---- the near lines' numbers
--- those of the walk: a number is one of them just where it is near
-none_near : (P : ℕ → Bool) (n : ℕ) (xs : List ℕ) → P n ≡ false → list_any (nat_eq n) (filter P xs) ≡ false
-none_near P n [] e = refl
-none_near P n (x ∷ xs) e = by (P x) refl (none_near P n xs e)
-  where
-    same : (m n : ℕ) → nat_eq m n ≡ true → n ≡ m
-    same m n e = grind arith
-
-    clash : true ≡ false → ⊥
-    clash e = cc
-
-    apart : (b : Bool) → P x ≡ true → nat_eq n x ≡ b → b ≡ false
-    apart true f g = absurd (clash (sym f ∙ ap P (same n x g) ∙ e))
-    apart false f g = refl
-
-    by : (b : Bool) → P x ≡ b → list_any (nat_eq n) (filter P xs) ≡ false → list_any (nat_eq n) (cond b (x ∷ filter P xs) (filter P xs)) ≡ false
-    by true f later = ap (λ (b : Bool). b || list_any (nat_eq n) (filter P xs)) (apart (nat_eq n x) f refl) ∙ later
-    by false f later = later
-
-walk_near : (P : ℕ → Bool) (n : ℕ) (xs : List ℕ) → (list_any (nat_eq n) xs ≡ false → P n ≡ false) → list_any (nat_eq n) (filter P xs) ≡ P n
-walk_near P n [] h = sym (h refl)
-walk_near P n (x ∷ xs) h = by (nat_eq n x) refl (P x) refl (walk_near P n xs)
-  where
-    same : (m n : ℕ) → nat_eq m n ≡ true → n ≡ m
-    same m n e = grind arith
-
-    by : (b : Bool) → nat_eq n x ≡ b → (c : Bool) → P x ≡ c → ((list_any (nat_eq n) xs ≡ false → P n ≡ false) → list_any (nat_eq n) (filter P xs) ≡ P n) → list_any (nat_eq n) (cond c (x ∷ filter P xs) (filter P xs)) ≡ P n
-    by true e true f later = ap (λ (b : Bool). b || list_any (nat_eq n) (filter P xs)) e ∙ sym f ∙ ap P (same n x e)
-    by true e false f later = none_near P n xs (ap P (sym (same n x e)) ∙ f) ∙ sym f ∙ ap P (same n x e)
-    by false e true f later = ap (λ (b : Bool). b || list_any (nat_eq n) (filter P xs)) e ∙ later (λ k. h (ap (λ (b : Bool). b || list_any (nat_eq n) xs) e ∙ k))
-    by false e false f later = later (λ k. h (ap (λ (b : Bool). b || list_any (nat_eq n) xs) e ∙ k))
+flip : (m n : ℕ) → nat_eq m n ≡ false → nat_eq n m ≡ false
+flip m n h = grind arith
 
 -- those of the lines in order of making
 abbrev numbers : (Triple → Bool) → List Triple → List ℕ
@@ -272,37 +168,10 @@ once_numbers n close (line ∷ lines) next r = by (nat_eq line.0 n) refl (once_n
     by true e rest = taken (close line) (same line.0 n e) ∙ ap (λ (z : ℕ). cond (close (z, line.1, line.2)) 1 0) (same line.0 n e) ∙ ap (λ o. cond (option_map_or (λ ends. close (n, ends.0, ends.1)) o false) 1 0) (sym (line_here line lines n e))
     by false e rest = left (close line) e ∙ rest ∙ ap (λ o. cond (option_map_or (λ ends. close (n, ends.0, ends.1)) o false) 1 0) (sym (line_later line lines n e))
 
--- numbers that pass stay distinct
-apart_kept : (P : ℕ → Bool) (x : ℕ) (xs : List ℕ) → AllByRecursion (λ m. nat_eq x m ≡ false) xs → AllByRecursion (λ m. nat_eq x m ≡ false) (filter P xs)
-apart_kept P x [] h = tt
-apart_kept P x (y ∷ ys) h = by (P y) (apart_kept P x ys h.1)
-  where
-    by : (c : Bool) → AllByRecursion (λ m. nat_eq x m ≡ false) (filter P ys) → AllByRecursion (λ m. nat_eq x m ≡ false) (cond c (y ∷ filter P ys) (filter P ys))
-    by true later = (h.0, later)
-    by false later = later
-
-distinct_kept : (P : ℕ → Bool) (xs : List ℕ) → IsDistinct nat_eq xs → IsDistinct nat_eq (filter P xs)
-unfolding IsDistinct
-distinct_kept P [] d = tt
-distinct_kept P (x ∷ xs) d = by (P x) (distinct_kept P xs d.1)
-  where
-    by : (c : Bool) → IsDistinct nat_eq (filter P xs) → IsDistinct nat_eq (cond c (x ∷ filter P xs) (filter P xs))
-    by true later = (apart_kept P x xs d.0, later)
-    by false later = later
-
--- sorted, the near numbers of the walk are those of the near lines
-pub near_sorted : (f : FrontState) (b : Bounds) (sorted : List ℕ) → IsFrontState f → IsPermutation (filter (is_near f b) f.walk) sorted → IsNonDecreasingBy (λ n. n) sorted → sorted ≡ numbers_near b f
-near_sorted f b sorted h p up = same_up sorted (numbers_near b f) (up_by_place sorted up) (numbers_up (is_close b f.points) f.lines f.next h.rising)
-    (λ n. often_sorted n (filter (is_near f b) f.walk) sorted p ∙ once n (filter (is_near f b) f.walk) (distinct_kept (is_near f b) f.walk h.walked.once)
-    ∙ ap (λ (c : Bool). cond c 1 0) (walk_near (is_near f b) n f.walk (absent n))
-    ∙ sym (once_numbers n (is_close b f.points) f.lines f.next h.rising))
-  where
-    absent : (n : ℕ) → list_any (nat_eq n) f.walk ≡ false → is_near f b n ≡ false
-    absent n e = by (line_at f.lines n) (sym (h.walked.each n) ∙ e)
-      where
-        by : (o : Option (ℕ × ℕ)) → is_some o ≡ false → option_map_or (λ ends. is_close b f.points (n, ends.0, ends.1)) o false ≡ false
-        by None k = refl
-        by (Some ends) k = absurd (cc)
+-- sorted, the numbers of all near lines are those in order of making
+pub near_sorted : (f : FrontState) (b : Bounds) (numbers sorted : List ℕ) → IsFrontState f → AreNear f b numbers → IsPermutation numbers sorted → IsNonDecreasingBy (λ n. n) sorted → sorted ≡ numbers_near b f
+near_sorted f b numbers sorted h near p up = same_up sorted (numbers_near b f) (up_by_place sorted up) (numbers_up (is_close b f.points) f.lines f.next h.rising)
+    (λ n. often_sorted n numbers sorted p ∙ once n numbers near.once ∙ ap (λ (c : Bool). cond c 1 0) (near.each n) ∙ sym (once_numbers n (is_close b f.points) f.lines f.next h.rising))
 
 -- each line is found by its number
 later_there : (line : Triple) (lines some : List Triple) → AllByRecursion (λ (other : Triple). line.0 < other.0) some → AllByRecursion (λ (l : Triple). line_at lines l.0 ≡ Some (l.1, l.2)) some → AllByRecursion (λ (l : Triple). line_at (line ∷ lines) l.0 ≡ Some (l.1, l.2)) some

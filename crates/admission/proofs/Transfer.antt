@@ -1,20 +1,17 @@
 -- What hinders an element is a line near it: so the least numbers among the near lines are those among all lines.
 use Prim.Native.Nat.{ℕ}
-use lib.IntN.{ℤ}
-use lib.Signed.{◌≤ℤ◌, le_z}
 use mathlib.Core.Path.{◌≡◌, refl, sym, subst}
-use mathlib.Core.Bool.{Bool, true, false, cond, ◌&&◌, ◌||◌}
+use mathlib.Core.Bool.{Bool, true, false, cond}
 use mathlib.Core.List.{List, [], ◌∷◌, map}
 use mathlib.Core.Logic.{inl, inr}
 use native.Mathlib.Omega.{arith}
-use Rattle.std.proofs.lemmas.Int.{ints, clamps}
-use Rattle.std.specs.Int.{int_max, int_min}
+use Rattle.std.proofs.lemmas.Int.{ints}
 use Rattle.std.specs.Prelude.{Option, Some, None, filter}
 use Rattle.std.specs.List.{AllByRecursion}
 use Rattle.grid_geom.specs.declared.Point.{Point}
 use Rattle.grid_geom.specs.declared.Edge.{Edge}
 use Rattle.grid_geom.specs.declared.Bounds.{Bounds}
-use Rattle.grid_geom.specs.Sides.{IsOnOpen, DoSpansMeet, DoBoxesMeet}
+use Rattle.grid_geom.specs.Sides.{IsOnOpen, DoBoxesMeet}
 use Rattle.grid_geom.specs.Polygon.{sides, IsStrictlyConvex}
 use Rattle.grid_geom.specs.Closed.{IsEdge}
 use Rattle.wind_law.specs.Chains.{edge, back}
@@ -22,7 +19,8 @@ use Rattle.state_law.specs.Gluing.{IsClearOf}
 use Rattle.state_law.specs.Saved.{AreInBox}
 use Rattle.state_law.specs.State.{State, pair_edge, front_edges}
 use Rattle.state_law.proofs.NearLines.{hinders_near}
-use Rattle.front_chain.specs.Front.{FrontState, does_reach, does_meet}
+use Rattle.front_chain.specs.Front.{FrontState, does_meet}
+use Rattle.front_chain.proofs.NearLines.{boxes_meet}
 use Rattle.admission.specs.declared.triangle.Line.{Line}
 use Rattle.admission.specs.declared.shapes.Shape.{Shape}
 use Rattle.admission.specs.declared.lines.Hindrances.{Hindrances}
@@ -46,25 +44,8 @@ none_of P Q [] h n = tt
 none_of P Q (x ∷ xs) h n = (h x (λ p. n (inl p)), none_of P Q xs h (λ r. n (inr r)))
 
 -- ---- boxes
--- the spans meet as the code compares them
-reached : (least greatest u w : ℤ) → least ≤ℤ greatest → DoSpansMeet u w least greatest → does_reach least greatest u w ≡ true
-reached least greatest u w h m = let i : int_min u w ≤ℤ int_max least greatest = m.not_after in let j : int_min least greatest ≤ℤ int_max u w = m.not_before in
-    both (le_z u greatest) (le_z w greatest) (le_z least u) (le_z least w) (low least greatest u w h i) (high least greatest u w h j)
-  where
-    both : (a b c d : Bool) → (a || b) ≡ true → (c || d) ≡ true → ((a || b) && (c || d)) ≡ true
-    both a b c d e f = cc
-
-    low : (least greatest u w : ℤ) → least ≤ℤ greatest → int_min u w ≤ℤ int_max least greatest → (le_z u greatest || le_z w greatest) ≡ true
-    low least greatest u w h i = grind (arith, ints, clamps)
-
-    high : (least greatest u w : ℤ) → least ≤ℤ greatest → int_min least greatest ≤ℤ int_max u w → (le_z least u || le_z least w) ≡ true
-    high least greatest u w h i = grind (arith, ints, clamps)
-
 pub met_by : (b : Bounds) (e : Edge) (p : Point) → IsInBounds b p → DoBoxesMeet e.a e.b b.lo b.hi → does_meet b e ≡ true
-met_by b e p h m = both (reached b.lo.x b.hi.x e.a.x e.b.x (omega (arith, ints, h.right_of_least, h.left_of_greatest)) m.columns) (reached b.lo.y b.hi.y e.a.y e.b.y (omega (arith, ints, h.above_least, h.below_greatest)) m.rows)
-  where
-    both : {a b : Bool} → a ≡ true → b ≡ true → (a && b) ≡ true
-    both e f = cc
+met_by b e p h = boxes_meet b e (omega (arith, ints, h.right_of_least, h.left_of_greatest)) (omega (arith, ints, h.above_least, h.below_greatest))
 
 pub boxed : (b : Bounds) (shape : Shape) → IsShapeIn b shape → AreInBox b.lo b.hi (corners_of_triangle shape.t)
 boxed b shape h = record {

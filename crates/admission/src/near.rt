@@ -1,8 +1,8 @@
 // The lines of a front: those near a box, and how often all of them wind round a point.
-ghost use Rattle.std.specs.Prelude.{◌≡◌, ◌∷◌, All, Some, true, IfOk, is_some, filter};
+ghost use Rattle.std.specs.Prelude.{◌≡◌, ◌∷◌, All, Some, true, IfOk, is_some};
 ghost use Rattle.grid_geom.specs.Bounds.{IsMeasured};
 ghost use Rattle.grid_geom.specs.Winding.{wind};
-ghost use Rattle.front_chain.specs.Front.{line_at, number_above, is_near, edges_of};
+ghost use Rattle.front_chain.specs.Front.{line_at, number_above, edges_of};
 ghost use Rattle.admission.specs.Triangles.{IsLineOnGrid};
 ghost use Rattle.admission.specs.Around.{drawn, drawn_at, numbers_of, ahead, IsThere, lines_near, numbers_near};
 
@@ -50,20 +50,6 @@ fn line_of(front: &Front, n: u64) -> Line
     }
 }
 
-/// The numbers of the lines near a box, as the front's walk meets them.
-fn numbers_met(alloc: Global, front: &Front, near: &Bounds) -> Result<Vec<u64>, OutOfMemory>
-    ensures { IfOk result (λ v. v.items ≡ filter (is_near front.now near.now) front.now.walk) }
-{
-    let _lines = front.lines();
-    let mut numbers = Vec::new(alloc);
-    let mut next = front.first_near(near);
-    while let Some(met) = next {
-        numbers.push(met.line)?;
-        next = front.next_near(near, &met);
-    }
-    Ok(numbers)
-}
-
 /// The numbers of the lines near a box, rising.
 fn numbers_near(alloc: Global, front: &Front, near: &Bounds) -> Result<Vec<u64>, OutOfMemory>
     ensures value { IfOk result (λ v. v.items ≡ numbers_near near.now front.now) }
@@ -71,7 +57,7 @@ fn numbers_near(alloc: Global, front: &Front, near: &Bounds) -> Result<Vec<u64>,
         All (λ n. is_some (line_at front.now.lines n) ≡ true) v.items) }
 {
     let _lines = front.lines();
-    let mut numbers = numbers_met(alloc, front, near)?;
+    let mut numbers = front.near_lines(alloc, near)?;
     numbers.sort_unstable();
     Ok(numbers)
 }

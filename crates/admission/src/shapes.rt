@@ -8,7 +8,7 @@ ghost use Rattle.admission.specs.Around.{all_points, IsInBounds, IsBoxOnGrid, Is
 ghost use Rattle.admission.specs.Triangles.{IsTriangleOnGrid};
 
 use crate::triangle::Triangle;
-use front_chain::Front;
+use front_chain::{Front, box_between};
 use grid_geom::{Bounds, Element, Point};
 use std::alloc::{AllocError as OutOfMemory, Global};
 
@@ -83,14 +83,8 @@ fn extended(bounds: &Bounds, by: Point) -> Bounds
     ensures keeps { (p : AnyPoint) → IsInBounds bounds.now p → IsInBounds result p }
 {
     Bounds {
-        lo: Point {
-            x: by.x.min(bounds.lo.x),
-            y: by.y.min(bounds.lo.y),
-        },
-        hi: Point {
-            x: by.x.max(bounds.hi.x),
-            y: by.y.max(bounds.hi.y),
-        },
+        lo: box_between(&by, &bounds.lo).lo,
+        hi: box_between(&by, &bounds.hi).hi,
     }
 }
 

@@ -7,8 +7,6 @@ pub mod Boxed
 pub mod AtNumbers
 -- Near: a line whose box misses the zone's is not in the way.
 pub mod Near
--- Remaining: what of a walk is still to be met.
-pub mod Remaining
 -- Walking: what is found while the near lines are walked, and at the end.
 pub mod Walking
 -- Told: what is told at the end.

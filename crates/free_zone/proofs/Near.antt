@@ -1,29 +1,27 @@
 -- A front line whose box misses the box of a zone's corners is apart from the zone, and its ends are not in it. Stands on state_law's NearLines and Saved.
 use lib.IntN.{ℤ}
-use lib.Signed.{◌≤ℤ◌, le_z}
+use lib.Signed.{◌≤ℤ◌}
 use lib.ListN.{length}
 use Prim.Native.Nat.{ℕ, ◌≤◌}
 use mathlib.Core.Path.{◌≡◌, refl, sym, ap, ◌∙◌, subst}
-use mathlib.Core.Bool.{Bool, true, false, ◌&&◌, ◌||◌}
+use mathlib.Core.Bool.{true, false}
 use mathlib.Core.List.{List, [], ◌∷◌}
 use mathlib.Core.Logic.{inl}
 use native.Mathlib.Omega.{arith}
-use Rattle.std.proofs.lemmas.Int.{ints, clamps}
-use Rattle.std.specs.Int.{int_max, int_min}
-use Rattle.std.specs.Prelude.{Option, Some, None, is_some}
+use Rattle.std.proofs.lemmas.Int.{ints}
+use Rattle.std.specs.Prelude.{Some}
 use Rattle.std.specs.Option.{option_map_or}
 use Rattle.std.specs.List.{AllByRecursion}
 use Rattle.grid_geom.specs.declared.Point.{Point}
 use Rattle.grid_geom.specs.declared.Bounds.{Bounds}
-use Rattle.grid_geom.specs.declared.Edge.{Edge}
-use Rattle.grid_geom.specs.Sides.{DoSpansMeet, DoBoxesMeet}
 use Rattle.grid_geom.specs.Closed.{IsEdge}
 use Rattle.grid_geom.specs.Polygon.{IsApart}
 use Rattle.state_law.specs.State.{IsListed, pair_edge, front_edges}
 use Rattle.state_law.specs.Saved.{AreInBox}
 use Rattle.state_law.proofs.NearLines.{far_apart}
 use Rattle.state_law.proofs.Saved.{point_in_zone}
-use Rattle.front_chain.specs.Front.{FrontState, IsFrontState, line_at, is_near, does_reach, does_meet}
+use Rattle.front_chain.specs.Front.{FrontState, IsFrontState, line_at, is_near, does_meet}
+use Rattle.front_chain.proofs.NearLines.{boxes_meet}
 use Rattle.free_zone.specs.Zone.{IsZone}
 use Rattle.free_zone.specs.InTheWay.{IsInside, IsBeside}
 use Rattle.free_zone.proofs.AtNumbers.{at_number}
@@ -32,25 +30,6 @@ use Rattle.free_zone.proofs.AtNumbers.{at_number}
 pub record IsBoxed (zone : List Point) (near : Bounds) : Type 0 where
   pub corners : IsZone zone
   pub box : AreInBox near.lo near.hi zone
-
--- ---- boxes that meet, as the walk tests them
-spans_reach : (least greatest u w : ℤ) → least ≤ℤ greatest → DoSpansMeet u w least greatest → does_reach least greatest u w ≡ true
-spans_reach least greatest u w h m = both (le_z u greatest) (le_z w greatest) (le_z least u) (le_z least w) (low least greatest u w h m.not_after) (high least greatest u w h m.not_before)
-  where
-    both : (a b c d : Bool) → (a || b) ≡ true → (c || d) ≡ true → ((a || b) && (c || d)) ≡ true
-    both a b c d e f = cc
-
-    low : (least greatest u w : ℤ) → least ≤ℤ greatest → int_min u w ≤ℤ int_max least greatest → (le_z u greatest || le_z w greatest) ≡ true
-    low least greatest u w h i = grind (arith, ints, clamps)
-
-    high : (least greatest u w : ℤ) → least ≤ℤ greatest → int_min least greatest ≤ℤ int_max u w → (le_z least u || le_z least w) ≡ true
-    high least greatest u w h i = grind (arith, ints, clamps)
-
-boxes_meet : (near : Bounds) (e : Edge) → near.lo.x ≤ℤ near.hi.x → near.lo.y ≤ℤ near.hi.y → DoBoxesMeet e.a e.b near.lo near.hi → does_meet near e ≡ true
-boxes_meet near e h i m = both (does_reach near.lo.x near.hi.x e.a.x e.b.x) (does_reach near.lo.y near.hi.y e.a.y e.b.y) (spans_reach near.lo.x near.hi.x e.a.x e.b.x h m.columns) (spans_reach near.lo.y near.hi.y e.a.y e.b.y i m.rows)
-  where
-    both : (a b : Bool) → a ≡ true → b ≡ true → (a && b) ≡ true
-    both a b e f = cc
 
 -- a box that holds a corner isn't empty
 ordered : (lo hi : Point) (cs : List Point) → 3 ≤ length cs → AreInBox lo hi cs → (lo.x ≤ℤ hi.x) × (lo.y ≤ℤ hi.y)
@@ -76,14 +55,6 @@ different_ends f k ends h e = at_number (λ line. IsEdge (pair_edge f.points (li
 -- and listed
 pub listed_ends : (f : FrontState) (k : ℕ) (ends : ℕ × ℕ) → IsFrontState f → line_at f.lines k ≡ Some ends → IsListed (length f.points) ends.0 × IsListed (length f.points) ends.1
 listed_ends f k ends h e = at_number (λ line. IsListed (length f.points) line.1 × IsListed (length f.points) line.2) f.lines k ends h.numbered.lines_listed e
-
--- a near number is that of a line
-pub near_there : (f : FrontState) (near : Bounds) (k : ℕ) → is_near f near k ≡ true → is_some (line_at f.lines k) ≡ true
-near_there f near k n = by (line_at f.lines k) n
-  where
-    by : (o : Option (ℕ × ℕ)) → option_map_or (λ ends. does_meet near (pair_edge f.points ends)) o false ≡ true → is_some o ≡ true
-    by None h = h
-    by (Some ends) h = refl
 
 -- a line that isn't near is apart
 pub far_beside : (zone : List Point) (f : FrontState) (near : Bounds) (k : ℕ) (ends : ℕ × ℕ) → IsBoxed zone near → IsFrontState f → line_at f.lines k ≡ Some ends → is_near f near k ≡ false → IsBeside zone f ends

@@ -1,24 +1,25 @@
 -- What is found while the near lines are walked, and at the end of the walk.
-use Prim.Native.Nat.{ℕ}
-use mathlib.Core.Path.{◌≡◌, refl, sym, ◌∙◌, subst}
+use Prim.Native.Nat.{ℕ, ◌<◌}
+use lib.ListN.{length}
+use mathlib.Core.Path.{◌≡◌, refl, sym, ap, ◌∙◌, subst}
 use mathlib.Core.Bool.{Bool, true, false, ◌||◌}
-use mathlib.Core.List.{List}
+use mathlib.Core.List.{List, ◌∷◌}
 use mathlib.Core.Logic.{◌⊎◌, inl, inr}
 use native.Mathlib.Omega.{arith}
 use Rattle.std.specs.Prelude.{nat_eq, Option, Some, None, IfSome}
 use Rattle.std.specs.Option.{option_map}
-use Rattle.std.specs.List.{Contains, after_first}
+use Rattle.std.specs.List.{Contains, list_any}
 use Rattle.grid_geom.specs.declared.Point.{Point}
 use Rattle.grid_geom.specs.declared.Bounds.{Bounds}
 use Rattle.front_chain.specs.declared.front.Near.{Near}
-use Rattle.front_chain.specs.Front.{IsFrontState, IsWalk, line_at, is_near, first_in_walk, next_in_walk, state_of}
+use Rattle.front_chain.specs.Front.{FrontState, IsFrontState, line_at, is_near, near_in_walk, still_near, state_of}
 use Rattle.front_chain.proofs.Ends.{end_leaves}
+use Rattle.front_chain.proofs.NearLines.{all_near}
 use Rattle.free_zone.specs.declared.blocked.Found.{Found}
 use Rattle.free_zone.specs.InTheWay.{Mapped, IsFrontPoint, IsMappedLine, IsInside, IsBeside, IsFreePoint, IsFreeLine, IsPointInWay, IsLineInWay}
 use Rattle.free_zone.specs.Walked.{IsAtMost, IsPassed, IsFound}
 use Rattle.free_zone.proofs.AtNumbers.{found_at, each_number, HasLineFrom, line_from, tested_end, start_on_front}
-use Rattle.free_zone.proofs.Near.{IsBoxed, near_there, far_beside, far_outside}
-use Rattle.free_zone.proofs.Remaining.{is_of, rest_of, first_met, next_met}
+use Rattle.free_zone.proofs.Near.{IsBoxed, far_beside, far_outside}
 
 -- the line k was looked at, and the point from which it goes
 pub record IsSeen (zone : List Point) (m : Mapped) (found : Found) (k : ℕ) : Type 0 where
@@ -29,14 +30,14 @@ pub record IsSeen (zone : List Point) (m : Mapped) (found : Found) (k : ℕ) : T
 pub record IsUnderWay (zone : List Point) (m : Mapped) (near : Bounds) (found : Found) (at : Option ℕ) : Type 0 where
   pub point : IfSome found.point (IsPointInWay zone m)
   pub line : IfSome found.line (IsLineInWay zone m)
-  pub seen : (k : ℕ) → is_near m.front near k ≡ true → (is_of (rest_of m.front.walk at) k ≡ true) ⊎ IsSeen zone m found k
+  pub seen : (k : ℕ) → is_near m.front near k ≡ true → (list_any (nat_eq k) (still_near m.front near at) ≡ true) ⊎ IsSeen zone m found k
 
 -- ---- the beginning
-pub begun : (zone : List Point) (m : Mapped) (near : Bounds) (at : Option ℕ) → IsWalk m.front.walk m.front.lines → at ≡ first_in_walk m.front near → IsUnderWay zone m near (record { point = None; line = None }) at
-begun zone m near at w e = record {
+pub begun : (zone : List Point) (m : Mapped) (near : Bounds) (at : Option ℕ) → IsFrontState m.front → still_near m.front near at ≡ near_in_walk m.front near → IsUnderWay zone m near (record { point = None; line = None }) at
+begun zone m near at h all = record {
   point = tt;
   line = tt;
-  seen = λ k n. inl (subst (λ (o : Option ℕ). is_of (rest_of m.front.walk o) k ≡ true) (sym e) (first_met (is_near m.front near) k m.front.walk n (w.each k ∙ near_there m.front near k n)));
+  seen = λ k n. inl ((all_near m.front near (still_near m.front near at) h all).each k ∙ n);
 }
 
 -- ---- one line further
@@ -64,21 +65,25 @@ module _ (zone : List Point) (m : Mapped) (near : Bounds) (old new : Found) (n :
     line = λ ends e. elim (s.line ends e) [ inl h ↦ inl h | inr h ↦ inr (p.line.kept k h) ];
   }
 
-  pub further : (at : Option ℕ) → IsUnderWay zone m near old (Some n) → at ≡ next_in_walk m.front near n → IsUnderWay zone m near new at
-  further at u e = record {
+  pub further : (at : Option ℕ) → IsUnderWay zone m near old (Some n) → n ∷ still_near m.front near at ≡ still_near m.front near (Some n) → IsUnderWay zone m near new at
+  further at u rest = record {
     point = kept_or_new (IsPointInWay zone m) (λ v. (v ≡ p.ends.0) × (¬ (Contains m.numbers p.ends.0) × IsInside zone m.front p.ends.0)) old.point new.point u.point p.point.found
         (λ v q. subst (IsPointInWay zone m) (sym q.0) (record { on_front = start_on_front m.front.lines n p.ends p.on_front; not_mapped = q.1.0; inside = q.1.1 }));
     line = kept_or_new (IsLineInWay zone m) (λ v. (v ≡ n) × (¬ (IsMappedLine m.rule m.numbers p.ends) × ¬ (IsBeside zone m.front p.ends))) old.line new.line u.line p.line.found
         (λ v q. subst (IsLineInWay zone m) (sym q.0) (record { ends = p.ends; on_front = p.on_front; not_mapped = q.1.0; not_apart = q.1.1 }));
-    seen = λ k h. elim (u.seen k h) [ inl r ↦ met k h (nat_eq k n) refl r | inr s ↦ inr (seen_before k s) ];
+    seen = λ k h. elim (u.seen k h) [ inl r ↦ met k (nat_eq k n) refl (ap (list_any (nat_eq k)) rest ∙ r) | inr s ↦ inr (seen_before k s) ];
   }
     where
       same : (k n : ℕ) → nat_eq k n ≡ true → n ≡ k
       same k n e = grind arith
 
-      met : (k : ℕ) → is_near m.front near k ≡ true → (b : Bool) → nat_eq k n ≡ b → (b || is_of (after_first (nat_eq n) m.front.walk) k) ≡ true → (is_of (rest_of m.front.walk at) k ≡ true) ⊎ IsSeen zone m new k
-      met k h true f r = inr (subst (IsSeen zone m new) (same k n f) seen_now)
-      met k h false f r = inl (subst (λ (o : Option ℕ). is_of (rest_of m.front.walk o) k ≡ true) (sym e) (next_met (is_near m.front near) n k m.front.walk h r))
+      met : (k : ℕ) (b : Bool) → nat_eq k n ≡ b → (b || list_any (nat_eq k) (still_near m.front near at)) ≡ true → (list_any (nat_eq k) (still_near m.front near at) ≡ true) ⊎ IsSeen zone m new k
+      met k true f r = inr (subst (IsSeen zone m new) (same k n f) seen_now)
+      met k false f r = inl r
+
+-- and less is still to be met
+pub fewer : (f : FrontState) (near : Bounds) (n : ℕ) (at : Option ℕ) → n ∷ still_near f near at ≡ still_near f near (Some n) → length (still_near f near at) < length (still_near f near (Some n))
+fewer f near n at rest = subst (λ (ns : List ℕ). length (still_near f near at) < length ns) rest (omega arith)
 
 -- ---- the end
 pub none_met : (o : Option Near) → ((near : Near) → o ≡ Some near → ⊥) → option_map (λ near. near.line) o ≡ None

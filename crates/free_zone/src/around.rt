@@ -1,34 +1,12 @@
 // A box that holds a zone.
-ghost use Rattle.std.specs.Prelude.{◌≡◌, List, [], ◌∷◌};
-ghost use Rattle.std.specs.Int.{int_min, int_max};
+ghost use Rattle.std.specs.Prelude.{List, [], ◌∷◌};
 ghost use Rattle.grid_geom.specs.declared.Point.{Point as AnyPoint};
 ghost use Rattle.state_law.specs.Saved.{AreInBox};
 ghost use Rattle.free_zone.specs.Zone.{IsZone};
 
 use crate::zone::Zone;
+use front_chain::box_between;
 use grid_geom::{Bounds, Point};
-
-/// The point with the lesser of each coordinate.
-fn lower(a: &Point, b: &Point) -> Point
-    ensures x { result.x ≡ int_min a.now.x b.now.x }
-    ensures y { result.y ≡ int_min a.now.y b.now.y }
-{
-    Point {
-        x: a.x.min(b.x),
-        y: a.y.min(b.y),
-    }
-}
-
-/// The point with the greater of each coordinate.
-fn higher(a: &Point, b: &Point) -> Point
-    ensures x { result.x ≡ int_max a.now.x b.now.x }
-    ensures y { result.y ≡ int_max a.now.y b.now.y }
-{
-    Point {
-        x: a.x.max(b.x),
-        y: a.y.max(b.y),
-    }
-}
 
 /// The box, made so large that it holds a point too.
 fn extended(bounds: &Bounds, by: &Point) -> Bounds
@@ -37,8 +15,8 @@ fn extended(bounds: &Bounds, by: &Point) -> Bounds
         AreInBox result.lo result.hi corners }
 {
     Bounds {
-        lo: lower(&bounds.lo, by),
-        hi: higher(&bounds.hi, by),
+        lo: box_between(&bounds.lo, by).lo,
+        hi: box_between(&bounds.hi, by).hi,
     }
 }
 

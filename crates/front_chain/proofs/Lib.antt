@@ -13,6 +13,7 @@ pub mod Neighbours
 pub mod Numbered
 pub mod Walks
 pub mod NearLines
+pub mod StillNear
 pub mod Ends
 -- Gluing: one side, the sides of an element one after another.
 pub mod Sides

@@ -2,7 +2,7 @@
 -- Origin: the advancing front of Schoeberl 1997 and of Bonet and Peraire 1991. The code keeps points and lines in hashed tables; these are lists.
 use lib.IntN.{ℤ, pos, negsuc}
 use lib.Signed.{le_z}
-use Rattle.std.specs.Prelude.{◌≡◌, ◌⊎◌, ℕ, zero, suc, ◌+◌, ◌-◌, ◌*◌, ◌/◌, ◌^◌, ◌≤◌, Bool, false, ◌&&◌, ◌||◌, nat_eq, nat_lt, not, List, [], ◌∷◌, ◌++◌, length, map, filter, position, Option, is_some}
+use Rattle.std.specs.Prelude.{◌≡◌, ◌⊎◌, ℕ, zero, suc, ◌+◌, ◌-◌, ◌*◌, ◌/◌, ◌^◌, ◌≤◌, Bool, false, ◌&&◌, ◌||◌, nat_eq, nat_lt, not, List, [], ◌∷◌, ◌++◌, length, map, filter, position, Option, Some, None, is_some}
 use Rattle.std.specs.Option.{option_map, option_map_or}
 use Rattle.std.specs.List.{All, AllByRecursion, Contains, IsDistinct, find, list_any, after_first}
 use Rattle.grid_geom.specs.declared.Point.{Point}
@@ -86,6 +86,11 @@ next_in_walk f b after = find (is_near f b) (after_first (nat_eq after) f.walk)
 -- the lines of the walk whose boxes meet b, in its order
 abbrev pub near_in_walk : FrontState → Bounds → List ℕ
 near_in_walk f b = filter (is_near f b) f.walk
+
+-- what a walk that stands at a near line has still to meet: that line and the near ones after it
+abbrev pub still_near : FrontState → Bounds → Option ℕ → List ℕ
+still_near f b None = []
+still_near f b (Some n) = n ∷ filter (is_near f b) (after_first (nat_eq n) f.walk)
 
 -- the numbers of the front lines whose boxes meet b, each once
 pub record AreNear (f : FrontState) (b : Bounds) (numbers : List ℕ) : Type 0 where

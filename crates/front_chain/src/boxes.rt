@@ -1,8 +1,8 @@
-// The box of a line.
+// The least box that holds two places, as the ends of a line.
 ghost use Rattle.std.specs.Prelude.{◌≡◌};
 ghost use Rattle.std.specs.Int.{int_max, int_min};
 ghost use Rattle.wind_law.specs.Chains.{edge};
-ghost use Rattle.front_chain.specs.Boxes.{box_of as box_of_edge};
+ghost use Rattle.front_chain.specs.Boxes.{box_of};
 
 use grid_geom::{Bounds, Point};
 
@@ -28,9 +28,9 @@ fn higher(a: &Point, b: &Point) -> Point
     }
 }
 
-/// The least box around a line's ends.
-pub fn box_of(a: &Point, b: &Point) -> Bounds
-    ensures { result ≡ box_of_edge (edge a.now b.now) }
+/// The least box that holds two places.
+pub fn box_between(a: &Point, b: &Point) -> Bounds
+    ensures { result ≡ box_of (edge a.now b.now) }
 {
     Bounds {
         lo: lower(a, b),

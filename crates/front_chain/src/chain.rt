@@ -6,7 +6,7 @@ ghost use Rattle.front_chain.specs.Front.{FrontState, IsWalk, line_at, number_be
 ghost use Rattle.front_chain.specs.Tables.{side_at, is_positive};
 ghost use Rattle.front_chain.specs.Boxes.{has_line, IsEntered, IsLeft};
 
-use crate::boxes::box_of;
+use crate::boxes::box_between;
 use crate::order::Order;
 use crate::side::Side;
 use crate::walk::Walk;
@@ -178,7 +178,7 @@ impl Chain {
         ensures spare_points { self.new.spare_points ≡ self.old.spare_points }
         ensures spare_lines { self.old.spare_lines ≤ self.new.spare_lines + 1 }
     {
-        let bounds = box_of(&self.point(side.from), &self.point(side.to));
+        let bounds = box_between(&self.point(side.from), &self.point(side.to));
         let number = enlist(&mut self.order, &mut self.walk, side, bounds);
         self.sides.insert(side, number).unwrap();
         self.leaving[side.from as usize - 1] += 1;

@@ -1,5 +1,5 @@
 // The front of a domain as a value that can't be wrong.
-ghost use Rattle.std.specs.Prelude.{◌≡◌, ℕ, ◌+◌, ◌<◌, ◌≤◌, List, [], ◌∷◌, ◌++◌, length, None, true, is_some, IfOk, OnOk, IfSome, IsTrue, ◌+ℤ◌};
+ghost use Rattle.std.specs.Prelude.{◌≡◌, ℕ, ◌+◌, ◌<◌, ◌≤◌, List, [], ◌∷◌, ◌++◌, length, Some, None, true, is_some, IfOk, OnOk, IfSome, IsTrue, ◌+ℤ◌};
 ghost use Rattle.std.specs.List.{All};
 ghost use Rattle.std.specs.Option.{option_map};
 ghost use Rattle.grid_geom.specs.declared.RatPoint.{RatPoint};
@@ -8,7 +8,7 @@ ghost use Rattle.grid_geom.specs.Area.{shoelace};
 ghost use Rattle.grid_geom.specs.Polygon.{sides};
 ghost use Rattle.grid_geom.specs.Winding.{wind};
 ghost use Rattle.state_law.specs.State.{IsListed, point_at, corners_of, glued};
-ghost use Rattle.front_chain.specs.Front.{IsFrontState, IsOpening, IsGluable, AreNear, edges_of, state_of, spare_elements, line_at, number_between, number_above, number_of, is_end, is_near, first_in_walk, near_in_walk, next_in_walk, numbered_from, idle_points, still_waiting};
+ghost use Rattle.front_chain.specs.Front.{IsFrontState, IsOpening, IsGluable, AreNear, edges_of, state_of, spare_elements, line_at, number_between, number_above, number_of, is_end, is_near, first_in_walk, near_in_walk, next_in_walk, still_near, numbered_from, idle_points, still_waiting};
 
 use crate::chain::Chain;
 use crate::gluing::{element_area, glue_sides};
@@ -159,6 +159,8 @@ impl Front {
     pub fn first_near(&self, b: &Bounds) -> Option<Near>
         ensures first { option_map (λ near. near.line) result ≡ first_in_walk self.now b.now }
         ensures near { IfSome result (λ near. IsTrue (is_near self.now b.now near.line)) }
+        ensures all { still_near self.now b.now (option_map (λ near. near.line) result) ≡
+            near_in_walk self.now b.now }
     {
         met(self.chain.first_near(b))
     }
@@ -169,6 +171,9 @@ impl Front {
         ensures next { option_map (λ near. near.line) result ≡
             next_in_walk self.now b.now after.now.line }
         ensures near { IfSome result (λ near. IsTrue (is_near self.now b.now near.line)) }
+        ensures rest { after.now.line ∷ still_near self.now b.now
+            (option_map (λ near. near.line) result) ≡
+            still_near self.now b.now (Some after.now.line) }
     {
         met(self.chain.next_near(b, after.line))
     }

@@ -31,6 +31,7 @@ mod order;
 mod side;
 mod walk;
 
+pub use boxes::box_between;
 pub use front::{Front, Near};
 pub use opening::SWEEP;
 pub use std::alloc::AllocError as OutOfMemory;

@@ -34,6 +34,8 @@ pub mod Put
 pub mod GoesOn
 -- OpenedRun: a run before its first application.
 pub mod OpenedRun
+-- IdleRun: a run by rules that never apply.
+pub mod IdleRun
 -- Zipped: lists in step with each other.
 pub mod Zipped
 -- StillNone: a refusal stays true.

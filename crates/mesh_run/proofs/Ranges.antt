@@ -29,7 +29,7 @@ all_of P each [] = All-nil P
 all_of P each (x ∷ xs) = All-cons P x xs (each x) (all_of P each xs)
 
 -- a run without an application names its points
-unmeshed_names : (segments : List Segment) (pieces : List Piece) (d : ℕ) → NamesItsPoints (unmeshed_run d segments pieces)
+pub unmeshed_names : (segments : List Segment) (pieces : List Piece) (d : ℕ) → NamesItsPoints (unmeshed_run d segments pieces)
 unmeshed_names segments pieces d = record { opened = omega arith; corners = All-nil _ }
 
 pub unmeshed_runs_name : (segments : List Segment) (pieces : List Piece) → All NamesItsPoints (unmeshed_runs segments pieces)

@@ -2,23 +2,49 @@
 ghost use Rattle.std.specs.Prelude.{◌≡◌, ◌<◌, IfOk, All};
 ghost use Rattle.std.specs.List.{AllZip, Contains};
 ghost use Rattle.geom_check.specs.Domains.{domain_numbers};
+ghost use Rattle.rule_match.specs.Idle.{NoneApplies};
 ghost use Rattle.mesh_run.specs.Mesh.{NamesItsPoints};
 ghost use Rattle.mesh_run.specs.Opening.{mesh_points};
 ghost use Rattle.mesh_run.specs.RunState.{AreOptions};
 ghost use Rattle.mesh_run.specs.Runs.{pieces_by, IsDomainRun, IsWholeRun};
 
 use super::ground::Ground;
-use super::opening::number_mesh;
+use super::opening::{number_mesh, open_domain};
 use super::whole::whole_end;
 use super::{DomainRun, DomainRuns, Gate, Options, Run, WholeRun};
 use geom_check::{Geometry, domain_numbers};
 use rule_maps::RuleSet;
+use rule_match::some_may_apply;
 use size_field::cut;
 use std::alloc::{AllocError as OutOfMemory, Global};
 use std::marker::Brand;
 use std::sync::ledger::{Blank, Ledger};
 use std::thread::Threads;
 use steps::Steps;
+
+/// The run of a domain by rules that never apply: its opening. No front is made for it.
+fn idle_domain(
+    alloc: Global,
+    ground: &Ground<'_, '_>,
+    domain: u32,
+) -> Result<DomainRun, OutOfMemory>
+    requires idle { NoneApplies ground.now.options.now.last ground.now.rules.now }
+    requires pieces { ground.now.pieces.now
+        ≡ pieces_by ground.now.geometry.now ground.now.options.now }
+    requires mesh { ground.now.mesh.now ≡ mesh_points ground.now.pieces.now }
+    ensures run { IfOk result (IsDomainRun ground.now.geometry.now ground.now.rules.now
+        ground.now.options.now domain) }
+    ensures names { IfOk result NamesItsPoints }
+{
+    let segments = ground.geometry.segments();
+    open_domain(
+        alloc,
+        domain,
+        segments,
+        ground.pieces.as_slice(),
+        ground.mesh,
+    )
+}
 
 /// The run of a domain from its opening to its end, which counts its own steps.
 fn run_domain<L: Ledger>(
@@ -39,6 +65,9 @@ fn run_domain<L: Ledger>(
         ground.now.options.now domain) }
     ensures names { IfOk result NamesItsPoints }
 {
+    if !some_may_apply(ground.rules, ground.options.last) {
+        return idle_domain(alloc, ground, domain);
+    }
     let mut steps = Steps::<L>::from_blank(blank);
     let mut run = Run::open_on(alloc, ground, domain)?;
     let end = run.run(alloc, &mut steps)?;

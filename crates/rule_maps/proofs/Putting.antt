@@ -54,16 +54,27 @@ pub record IsSum (from top bottom s : ℤ) : Type 0 where
   pub fits : SFits w128 s
   pub value : cast128 s ≡ from +ℤ nearest (record { top = top; bottom = bottom })
 
-pub sum_of_rounded : (from top bottom r : ℤ) → IsWithin GRID from → IsWithin TOP top → pos 0 <ℤ bottom → bottom ≤ℤ BOTTOM →
-    (pos 2 *ℤ cast128 bottom *ℤ r) ≤ℤ (pos 2 *ℤ cast128 top +ℤ cast128 bottom) → (pos 2 *ℤ cast128 top +ℤ cast128 bottom) <ℤ (pos 2 *ℤ cast128 bottom *ℤ (r +ℤ pos 1)) → IsSum from top bottom (cast128 (cast64 from) +ℤ cast128 r)
-sum_of_rounded from top bottom r hf ht hp hb h j = subst (λ (z : ℤ). IsSum from top bottom z) (sym inner) (record { fits = fits; value = let f : SFits w128 (from +ℤ r) = fits in subst (λ (z : ℤ). cast128 (from +ℤ r) ≡ from +ℤ z) (nearest_is (record { top = top; bottom = bottom }) r hp rounded) (simp to_z-of_z) })
+plainly : (top bottom r : ℤ) → IsWithin TOP top → pos 0 <ℤ bottom → bottom ≤ℤ BOTTOM →
+    (pos 2 *ℤ cast128 bottom *ℤ r) ≤ℤ (pos 2 *ℤ cast128 top +ℤ cast128 bottom) → (pos 2 *ℤ cast128 top +ℤ cast128 bottom) <ℤ (pos 2 *ℤ cast128 bottom *ℤ (r +ℤ pos 1)) → IsRounded top bottom r
+plainly top bottom r ht hp hb h j =
+    let f : SFits w128 top = fits128 TOP top (omega (arith, ints)) ht in
+    let g : SFits w128 bottom = omega (arith, ints, hp, hb) in
+    record { least = simp to_z-of_z at h; greatest = simp to_z-of_z at j }
+
+pub rounded_small : (top bottom r : ℤ) → IsWithin TOP top → pos 0 <ℤ bottom → bottom ≤ℤ BOTTOM →
+    (pos 2 *ℤ cast128 bottom *ℤ r) ≤ℤ (pos 2 *ℤ cast128 top +ℤ cast128 bottom) → (pos 2 *ℤ cast128 top +ℤ cast128 bottom) <ℤ (pos 2 *ℤ cast128 bottom *ℤ (r +ℤ pos 1)) → IsWithin TOP r
+rounded_small top bottom r ht hp hb h j = rounded_within top bottom r TOP hp (plainly top bottom r ht hp hb h j) (omega (arith, ints, ht.least, hp)) (omega (arith, ints, ht.greatest, hp))
+
+pub rounded_value : (top bottom r : ℤ) → IsWithin TOP top → pos 0 <ℤ bottom → bottom ≤ℤ BOTTOM →
+    (pos 2 *ℤ cast128 bottom *ℤ r) ≤ℤ (pos 2 *ℤ cast128 top +ℤ cast128 bottom) → (pos 2 *ℤ cast128 top +ℤ cast128 bottom) <ℤ (pos 2 *ℤ cast128 bottom *ℤ (r +ℤ pos 1)) → cast128 r ≡ nearest (record { top = top; bottom = bottom })
+rounded_value top bottom r ht hp hb h j =
+    let k : SFits w128 r = fits128 TOP r (omega (arith, ints)) (rounded_small top bottom r ht hp hb h j) in
+    let back : cast128 r ≡ r = simp to_z-of_z in
+    back ∙ nearest_is (record { top = top; bottom = bottom }) r hp (plainly top bottom r ht hp hb h j)
+
+pub sum_of_rounded : (from top bottom : ℤ) {r : ℤ} → IsWithin GRID from → r ≡ nearest (record { top = top; bottom = bottom }) → IsWithin TOP r → IsSum from top bottom (cast128 (cast64 from) +ℤ cast128 r)
+sum_of_rounded from top bottom {r} hf e small = subst (λ (z : ℤ). IsSum from top bottom z) (sym inner) (record { fits = fits; value = let f : SFits w128 (from +ℤ r) = fits in subst (λ (z : ℤ). cast128 (from +ℤ r) ≡ from +ℤ z) e (simp to_z-of_z) })
   where
-    rounded : IsRounded top bottom r
-    rounded = let f : SFits w128 top = fits128 TOP top (omega (arith, ints)) ht in let g : SFits w128 bottom = omega (arith, ints, hp, hb) in record { least = simp to_z-of_z at h; greatest = simp to_z-of_z at j }
-
-    small : IsWithin TOP r
-    small = rounded_within top bottom r TOP hp rounded (omega (arith, ints, ht.least, hp)) (omega (arith, ints, ht.greatest, hp))
-
     inner : cast128 (cast64 from) +ℤ cast128 r ≡ from +ℤ r
     inner = let f : SFits w64 from = fits64 GRID from (omega (arith, ints)) hf in let g : SFits w128 from = fits128 GRID from (omega (arith, ints)) hf in let k : SFits w128 r = fits128 TOP r (omega (arith, ints)) small in simp to_z-of_z
 

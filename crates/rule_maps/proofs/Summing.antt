@@ -117,10 +117,10 @@ abbrev pub mixed_weight : ℕ → ℤ
 mixed_weight class = pos 2 *ℤ pos class -ℤ pos 2
 
 abbrev pub code_weight : ℕ → ℤ
-code_weight class = cast128 (cast128 (pos 2 *ℤ to_z w128 class) -ℤ pos 2)
+code_weight class = cast128 (mixed_weight class)
 
 weight_is : (class : ℕ) → 1 ≤ class → class ≤ 16 → code_weight class ≡ mixed_weight class
-weight_is class h j = ap (λ (z : ℤ). cast128 (cast128 (pos 2 *ℤ z) -ℤ pos 2)) (to_z_pos w128 class (omega (arith, j))) ∙ (let f : SFits w128 (pos 2 *ℤ pos class) = omega (arith, ints, j) in let g : SFits w128 (pos 2 *ℤ pos class -ℤ pos 2) = omega (arith, ints, h, j) in simp to_z-of_z)
+weight_is class h j = let g : SFits w128 (pos 2 *ℤ pos class -ℤ pos 2) = omega (arith, ints, h, j) in simp to_z-of_z
 
 pub record IsMixed (class : ℕ) (a l : ℤ) : Type 0 where
   pub product_fits : SFits w128 (code_weight class *ℤ cast128 l)

@@ -7,8 +7,8 @@ ghost use Rattle.rule_maps.specs.Frame.{LocalFrame, IsRoot, IsFrameOf, IsFrame, 
 use grid_geom::{GRID, LONGEST, Point, isqrt, on_grid, round_div};
 use std::marker::Model;
 
-// Bounds of the numbers on the way, all from `GRID` and `LONGEST`: a difference of coordinates, a sum of two products of
-// differences, the length, the height, and the square unit.
+// Bounds of the numbers on the way, all from `GRID` and `LONGEST`: a difference of coordinates, a sum of two products
+// of differences, the length, the height, and the square unit.
 pub(crate) const OFFSET: i64 = 2 * GRID;
 
 pub(crate) const TURN: i64 = 2 * OFFSET * OFFSET;
@@ -201,7 +201,8 @@ impl Frame {
         self.middle
     }
 
-    /// Whether a rule may map p on this line: whether p is on the grid, and within four heights of the middle in each coordinate.
+    /// Whether a rule may map p on this line: whether p is on the grid, and within four heights of the middle in each
+    /// coordinate.
     pub fn is_in_range(&self, p: Point) -> bool
         ensures { IsTrue result ↔ IsInRange self.now p }
     {

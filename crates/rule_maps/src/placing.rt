@@ -12,8 +12,8 @@ use grid_geom::{GRID, Point, round_div};
 /// The greatest class of quality.
 pub(crate) const CLASSES: u32 = 16;
 
-// Bounds of the numbers on the way: how much a local place at the greatest class weighs, its numerator, that of a grid coordinate, and
-// their denominator.
+// Bounds of the numbers on the way: how much a local place at the greatest class weighs, its numerator, that of a
+// grid coordinate, and their denominator.
 pub(crate) const WEIGHT: u32 = 2 * CLASSES - 1;
 
 pub(crate) const MIXED: i128 = WEIGHT as i128 * NUMERATOR;
@@ -29,6 +29,19 @@ struct Quotient {
     bottom: i128,
 }
 
+/// A quotient, rounded to the nearest whole number, halves upwards.
+#[tactic(auto, using(crate::proofs::Putting::rounded_value, crate::proofs::Putting::rounded_small))]
+fn rounded(offset: &Quotient) -> i128
+    requires top { IsWithin TOP offset.now.top }
+    requires positive { pos 0 <ℤ offset.now.bottom }
+    requires bottom { offset.now.bottom ≤ℤ BOTTOM }
+    ensures value { result ≡
+        nearest (record { top = offset.now.top; bottom = offset.now.bottom }) }
+    ensures small { IsWithin TOP result }
+{
+    round_div(offset.top, offset.bottom)
+}
+
 /// A coordinate and a rounded quotient, where their sum is on the grid.
 fn coordinate(from: &i64, offset: &Quotient) -> Option<i64>
     requires from_on { IsWithin GRID from.now }
@@ -41,7 +54,7 @@ fn coordinate(from: &i64, offset: &Quotient) -> Option<i64>
     ensures none { IfNone result (¬ IsWithin GRID (from.now +ℤ
         nearest (record { top = offset.now.top; bottom = offset.now.bottom }))) }
 {
-    let z = *from as i128 + round_div(offset.top, offset.bottom);
+    let z = *from as i128 + rounded(offset);
     if -(GRID as i128) <= z && z <= GRID as i128 {
         Some(z as i64)
     } else {

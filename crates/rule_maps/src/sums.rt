@@ -11,8 +11,9 @@ use grid_geom::Point;
 use rule_reader::{MapPoint, Place, Term};
 use std::alloc::{AllocError as OutOfMemory, Global};
 
-// Bounds of the numbers on the way, all from the limits of rules and those of `frame`: a product of two numbers of a rule, what of a
-// row doesn't depend on the mapped points, a term that does, the sum of a row's terms, and a row's numerator.
+// Bounds of the numbers on the way, all from the limits of rules and those of `frame`: a product of two numbers of a
+// rule, what of a row doesn't depend on the mapped points, a term that does, the sum of a row's terms, and a row's
+// numerator.
 pub(crate) const NUMBER: i64 = 160_000;
 
 pub(crate) const TERMS: i64 = 32;
@@ -171,6 +172,15 @@ pub(crate) fn numerators(
     }
 }
 
+/// How much the second shape of a corner weighs at a class, where the first weighs 1.
+fn limit_weight(class: u32) -> i128
+    requires least { 1 ≤ class }
+    requires greatest { class ≤ 16 }
+    ensures { result ≡ pos 2 *ℤ pos class -ℤ pos 2 }
+{
+    2 * class as i128 - 2
+}
+
 /// Both shapes of a corner mixed at a class: area and 2 class - 2 times limit, over 2 class - 1.
 pub(crate) fn mixed(area: &PlaceNumerators, limit: &PlaceNumerators, class: u32) -> PlaceNumerators
     requires area_u { IsWithin NUMERATOR area.now.u }
@@ -184,7 +194,7 @@ pub(crate) fn mixed(area: &PlaceNumerators, limit: &PlaceNumerators, class: u32)
     ensures u_small { IsWithin (pos 31 *ℤ NUMERATOR) result.u }
     ensures v_small { IsWithin (pos 31 *ℤ NUMERATOR) result.v }
 {
-    let weight = 2 * class as i128 - 2;
+    let weight = limit_weight(class);
     PlaceNumerators {
         u: area.u + weight * limit.u,
         v: area.v + weight * limit.v,

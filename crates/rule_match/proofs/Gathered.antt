@@ -1,35 +1,31 @@
--- A walk over the front lines near a base line gathers those that begin in range: each near line is still to be met, or is gathered.
+-- Of the front lines near a base line those are gathered that begin in range: each line is passed in turn, and all near lines were.
 use Prim.Native.Nat.{ℕ, zero, suc, ◌+◌, ◌<◌, ◌≤◌}
-use lib.IntN.{ℤ, pos, ◌+ℤ◌, ◌-ℤ◌, ◌*ℤ◌}
-use lib.Signed.{le_z, ◌≤ℤ◌, ◌<ℤ◌}
+use lib.Signed.{le_z}
 use native.Mathlib.Omega.{arith}
 use mathlib.Core.Path.{◌≡◌, refl, sym, subst, ap, ◌∙◌}
 use mathlib.Core.Bool.{Bool, true, false, cond, true≢false, ◌&&◌, ◌||◌}
 use mathlib.Core.List.{List, [], ◌∷◌, ◌++◌}
 use mathlib.Core.Logic.{◌⊎◌, inl, inr}
-use Rattle.std.specs.Prelude.{nat_eq, Option, Some, None, IfSome, IsTrue, is_some, length, slice_index_or, map}
+use Rattle.std.specs.Prelude.{nat_eq, Option, Some, length, slice_index_or}
 use Rattle.std.specs.Option.{option_map, option_map_or}
-use Rattle.std.specs.List.{All, AllByRecursion, Any, find, list_any, after_first}
-use Rattle.std.proofs.lemmas.Bool.{eqb-true, eq-eqb}
+use Rattle.std.specs.List.{All, AllByRecursion, Any, find, list_any}
+use Rattle.std.proofs.lemmas.Bool.{eq-eqb}
 use Rattle.std.proofs.lemmas.List.Elements.{All-push}
 use Rattle.grid_geom.specs.declared.Point.{Point}
 use Rattle.grid_geom.specs.declared.Bounds.{Bounds}
 use Rattle.grid_geom.proofs.Booleans.{true_le}
 use Rattle.rule_maps.specs.Frame.{LocalFrame, IsInRange}
-use Rattle.state_law.specs.State.{State, point_at, pair_edge, AreRising}
-use Rattle.front_chain.specs.Front.{FrontState, IsFrontState, IsWalk, state_of, line_at, does_reach, does_meet, is_near, first_in_walk, next_in_walk}
-use Rattle.front_chain.specs.declared.front.Near.{Near}
+use Rattle.state_law.specs.State.{point_at, pair_edge, AreRising}
+use Rattle.front_chain.specs.Front.{FrontState, IsFrontState, AreNear, state_of, line_at, does_meet, is_near}
+use Rattle.front_chain.proofs.NearLines.{place_of}
 use Rattle.admission.specs.Around.{IsInBounds}
-use Rattle.free_zone.proofs.Remaining.{is_of, rest_of, first_met, next_met, less_left}
-use Rattle.rule_match.specs.Candidate.{IsFrontPair}
 use Rattle.rule_match.specs.Trying.{does_go}
 use Rattle.rule_match.specs.Around.{IsStartNear, HasStartsNear, IsPassed, IsAdded}
 
--- the walk stands at a near line or at its end; each near line is still to be met, or is gathered where it begins in range
-pub record IsUnderWay (f : FrontState) (frame : LocalFrame) (box : Bounds) (lines : List (ℕ × ℕ)) (at : Option Near) : Type 0 where
-  pub near : IfSome at (λ here. IsTrue (is_near f box here.line))
+-- of the numbers those before place k are passed: their lines are gathered where they begin in range
+pub record IsUnderWay (f : FrontState) (frame : LocalFrame) (lines : List (ℕ × ℕ)) (numbers : List ℕ) (k : ℕ) : Type 0 where
   pub only : All (IsStartNear (state_of f) frame) lines
-  pub met : (k : ℕ) → is_near f box k ≡ true → (is_of (rest_of f.walk (option_map (λ (here : Near). here.line) at)) k ≡ true) ⊎ IsPassed f frame lines k
+  pub passed : (i : ℕ) → i < k → IsPassed f frame lines (slice_index_or numbers i 0)
 
 clash : {A : Type 0} → false ≡ true → A
 clash h = absurd (true≢false (sym h))
@@ -42,14 +38,6 @@ or_right true b h = refl
 or_right false b h = h
 
 -- ---- lines by number
--- a near line is a front line
-pub near_line : (f : FrontState) (box : Bounds) (k : ℕ) → is_near f box k ≡ true → is_some (line_at f.lines k) ≡ true
-near_line f box k = by (line_at f.lines k)
-  where
-    by : (o : Option (ℕ × ℕ)) → option_map_or (λ ends. does_meet box (pair_edge f.points ends)) o false ≡ true → is_some o ≡ true
-    by None h = clash h
-    by (Some ends) h = refl
-
 -- steps of the definition
 line_here : (line : ℕ × ℕ × ℕ) (lines : List (ℕ × ℕ × ℕ)) (n : ℕ) → nat_eq line.0 n ≡ true → line_at (line ∷ lines) n ≡ Some (line.1, line.2)
 line_here line lines n e = ap (λ b. option_map (λ (l : ℕ × ℕ × ℕ). (l.1, l.2)) (cond b (Some line) (find (λ (l : ℕ × ℕ × ℕ). nat_eq l.0 n) lines))) e
@@ -116,37 +104,23 @@ not_added f frame n lines ends e o = record {
   only = λ a. a;
 }
 
--- ---- the walk
-abbrev pub ahead_of : FrontState → Option Near → List ℕ
-ahead_of f at = rest_of f.walk (option_map (λ (here : Near). here.line) at)
-
-pub begins : (f : FrontState) (frame : LocalFrame) (box : Bounds) (lines : List (ℕ × ℕ)) (at : Option Near) → lines ≡ [] → IsFrontState f → option_map (λ (near : Near). near.line) at ≡ first_in_walk f box → IfSome at (λ near. IsTrue (is_near f box near.line)) → IsUnderWay f frame box lines at
-begins f frame box lines at z s e n = subst (λ (ls : List (ℕ × ℕ)). IsUnderWay f frame box ls at) (sym z) (record {
-  near = n;
+-- ---- one line after another
+pub begins : (f : FrontState) (frame : LocalFrame) (lines : List (ℕ × ℕ)) (numbers : List ℕ) → lines ≡ [] → IsUnderWay f frame lines numbers 0
+begins f frame lines numbers z = subst (λ (ls : List (ℕ × ℕ)). IsUnderWay f frame ls numbers 0) (sym z) (record {
   only = λ k d h. absurd (omega (arith, h));
-  met = λ k h. inl (subst (λ (o : Option ℕ). is_of (rest_of f.walk o) k ≡ true) (sym e) (first_met (is_near f box) k f.walk h (s.walked.each k ∙ near_line f box k h)));
+  passed = λ i h. absurd (omega (arith, h));
 })
 
--- one line is passed, and the walk goes on
-pub goes_on : (f : FrontState) (frame : LocalFrame) (box : Bounds) (old new : List (ℕ × ℕ)) (here : Near) (next : Option Near) → IsUnderWay f frame box old (Some here) → IsAdded f frame here.line old new →
-    option_map (λ (near : Near). near.line) next ≡ next_in_walk f box here.line → IfSome next (λ near. IsTrue (is_near f box near.line)) → IsUnderWay f frame box new next
-goes_on f frame box old new here next u a e n = record {
-  near = n;
-  only = a.only u.only;
-  met = λ k h. step k h (u.met k h);
-}
+-- one line more is passed
+pub goes_on : {f : FrontState} {frame : LocalFrame} {old new : List (ℕ × ℕ)} (numbers : List ℕ) (k : ℕ) → IsUnderWay f frame old numbers k → IsAdded f frame (slice_index_or numbers k 0) old new → IsUnderWay f frame new numbers (k + 1)
+goes_on {f} {frame} {old} {new} numbers k u a = record { only = a.only u.only; passed = λ i h. by i (compared i k h) }
   where
-    step : (k : ℕ) → is_near f box k ≡ true → (is_of (here.line ∷ after_first (nat_eq here.line) f.walk) k ≡ true) ⊎ IsPassed f frame old k → (is_of (ahead_of f next) k ≡ true) ⊎ IsPassed f frame new k
-    step k h (inr p) = inr (λ ends o r. a.kept ends.0 ends.1 (p ends o r))
-    step k h (inl m) = by (nat_eq k here.line) refl m
-      where
-        by : (b : Bool) → nat_eq k here.line ≡ b → (b || is_of (after_first (nat_eq here.line) f.walk) k) ≡ true → (is_of (ahead_of f next) k ≡ true) ⊎ IsPassed f frame new k
-        by true i m = inr (subst (IsPassed f frame new) (sym (eqb-true k here.line i)) a.passed)
-        by false i m = inl (subst (λ (o : Option ℕ). is_of (rest_of f.walk o) k ≡ true) (sym e) (next_met (is_near f box) here.line k f.walk h m))
+    compared : (i k : ℕ) → i < k + 1 → (i < k) ⊎ (i ≡ k)
+    compared i k h = grind arith
 
--- less of the walk is ahead
-pub gets_shorter : (f : FrontState) (box : Bounds) (at : Option Near) (here : Near) (next : Option Near) → at ≡ Some here → IsFrontState f → option_map (λ (near : Near). near.line) next ≡ next_in_walk f box here.line → length (ahead_of f next) < length (ahead_of f at)
-gets_shorter f box at here next i s e = subst (λ (o : Option Near). length (ahead_of f next) < length (ahead_of f o)) (sym i) (less_left (is_near f box) here.line (option_map (λ (near : Near). near.line) next) f.walk s.walked.once (sym e))
+    by : (i : ℕ) → (i < k) ⊎ (i ≡ k) → IsPassed f frame new (slice_index_or numbers i 0)
+    by i (inl h) = λ ends o r. a.kept ends.0 ends.1 (u.passed i h ends o r)
+    by i (inr e) = subst (λ (m : ℕ). IsPassed f frame new (slice_index_or numbers m 0)) (sym e) a.passed
 
 -- ---- what is gathered at the end
 start_meets : (box : Bounds) (a b : Point) → IsInBounds box a → does_meet box (record { a = a; b = b }) ≡ true
@@ -156,14 +130,15 @@ start_meets box a b h = all (le_z a.x box.hi.x) (le_z b.x box.hi.x) (le_z box.lo
     all : (p q r s t u v w : Bool) → p ≡ true → r ≡ true → t ≡ true → v ≡ true → (((p || q) && (r || s)) && ((t || u) && (v || w))) ≡ true
     all p q r s t u v w h1 h2 h3 h4 = ap (λ (z : Bool). ((z || q) && (r || s)) && ((t || u) && (v || w))) h1 ∙ ap (λ (z : Bool). (z || s) && ((t || u) && (v || w))) h2 ∙ ap (λ (z : Bool). (z || u) && (v || w)) h3 ∙ ap (λ (z : Bool). z || w) h4
 
-pub all_gathered : (f : FrontState) (frame : LocalFrame) (box : Bounds) (lines : List (ℕ × ℕ)) (at : Option Near) → at ≡ None → IsFrontState f → ((p : Point) → IsInRange frame p → IsInBounds box p) → IsUnderWay f frame box lines at → HasStartsNear (state_of f) frame lines
-all_gathered f frame box lines at0 none s inside under a b pair r =
-    let u : IsUnderWay f frame box lines None = subst (IsUnderWay f frame box lines) none under in
+pub all_gathered : {f : FrontState} {frame : LocalFrame} {box : Bounds} {lines : List (ℕ × ℕ)} {numbers : List ℕ} (k : ℕ) → IsFrontState f → AreNear f box numbers → length numbers ≤ k → ((p : Point) → IsInRange frame p → IsInBounds box p) → IsUnderWay f frame lines numbers k → HasStartsNear (state_of f) frame lines
+all_gathered {f} {frame} {box} {lines} {numbers} k s met all inside u a b pair r =
     let line : ℕ × ℕ × ℕ = pair.1 in
     let at : line_at f.lines line.0 ≡ Some (line.1, line.2) = line_numbered f.lines f.next pair.0 line line s.rising pair.2 pair.3 in
     let r2 : IsInRange frame (point_at f.points line.1) = subst (λ (n : ℕ). IsInRange frame (point_at f.points n)) (sym pair.4.0) r in
     let near : is_near f box line.0 ≡ true = ap (λ (o : Option (ℕ × ℕ)). option_map_or (λ ends. does_meet box (pair_edge f.points ends)) o false) at ∙ start_meets box (point_at f.points line.1) (point_at f.points line.2) (inside (point_at f.points line.1) r2) in
-    elim (u.met line.0 near) [
-      | inl m ↦ clash m
-      | inr p ↦ subst (λ (n : ℕ). list_any (does_go n b) lines ≡ true) pair.4.0 (subst (λ (n : ℕ). list_any (does_go line.1 n) lines ≡ true) pair.4.1 (p (line.1, line.2) at r2))
-    ]
+    let here = place_of met line.0 near in
+    let p : IsPassed f frame lines line.0 = subst (IsPassed f frame lines) here.2 (u.passed here.0 (on here.0 (length numbers) k here.1 all)) in
+    subst (λ (n : ℕ). list_any (does_go n b) lines ≡ true) pair.4.0 (subst (λ (n : ℕ). list_any (does_go line.1 n) lines ≡ true) pair.4.1 (p (line.1, line.2) at r2))
+  where
+    on : (i m k : ℕ) → i < m → m ≤ k → i < k
+    on i m k h l = omega arith

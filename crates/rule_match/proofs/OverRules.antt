@@ -29,6 +29,7 @@ use Rattle.rule_match.specs.Fitting.{fits_so_far}
 use Rattle.rule_match.specs.Trying.{near_at, ties}
 use Rattle.rule_match.specs.Around.{IsTried, StandFor, setting_of}
 use Rattle.rule_match.specs.Base.{BaseLine, IsBaseLine, IsBaseOf, IsFramed, Tried, attempt_of, numbers_at, setting_at}
+use Rattle.rule_match.specs.Idle.{NoneApplies, SomeMayApply}
 use Rattle.rule_match.specs.Passed.{IsPassed, IsOn, IsFind, IsFindIfAny, IsLeastSoFar, NoneMayApply, Holds, rank_of, state_at}
 use Rattle.rule_match.proofs.Advances.{no_worse_same, no_worse_chain}
 use Rattle.rule_match.proofs.Gathered.{line_numbered}
@@ -215,11 +216,35 @@ none_may_more class k rules rule so_far within is never number few text at = by 
         never (subst IsLive same live) (subst (λ (r : Rule). r.quality ≤ class) same quality)
 
 -- then the line has no candidate
-pub none_may : (sizes : SizeField) (st : State) (rules : List Rule) (line class : ℕ) → NoneMayApply class rules (length rules) → HasNone sizes st rules line class
+none_may : (sizes : SizeField) (st : State) (rules : List Rule) (line class : ℕ) → NoneMayApply class rules (length rules) → HasNone sizes st rules line class
 none_may sizes st rules line class idle = record {
   none = λ t of c.
       let last = all_rules rules t t.text of.numbered of.is_rule in
       idle (t.rule - 1) (omega (arith, of.numbered, last)) t.text of.is_rule c.live (subst (λ (n : ℕ). t.text.quality ≤ n) of.same_class c.quality);
+}
+
+-- nor at a class below
+none_at : (sizes : SizeField) (st : State) (rules : List Rule) (line n class : ℕ) → n ≤ class → NoneMayApply class rules (length rules) → HasNone sizes st rules line n
+none_at sizes st rules line n class low idle =
+    none_may sizes st rules line n (λ number few rule at live quality. idle number few rule at live (omega (arith, low, quality)))
+
+none_applies : (class : ℕ) (rules : List Rule) → NoneMayApply class rules (length rules) → NoneApplies class rules
+none_applies class rules idle = record {
+  none = λ sizes st line n low. none_at sizes st rules line n class low idle;
+}
+
+-- where all were looked at
+pub none_of_all : (class k count : ℕ) (rules : List Rule) → count ≡ length rules → count ≤ k → NoneMayApply class rules k → NoneApplies class rules
+none_of_all class k count rules whole ended idle = none_applies class rules (λ number few. idle number (omega (arith, few, whole, ended)))
+
+-- one that may is some one that may
+pub some_may : (class k count : ℕ) (rules : List Rule) (rule : Rule) → count ≡ length rules → k < count → ((d : Rule) → slice_index_or rules (k + 1 - 1) d ≡ rule) → IsLive rule → rule.quality ≤ class → SomeMayApply class rules
+some_may class k count rules rule whole within is live quality = record {
+  number = k + 1 - 1;
+  rule = rule;
+  is_rule = rule_is rules (k + 1) rule (omega arith) (omega (arith, whole, within)) is;
+  live = live;
+  quality = quality;
 }
 
 -- ---- over all rules

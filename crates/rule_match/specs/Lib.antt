@@ -16,6 +16,8 @@ pub mod Trying
 pub mod Around
 -- Base: a front line tried at a class, and the attempts for which assignments of near points stand.
 pub mod Base
+-- Idle: rules of which none can apply.
+pub mod Idle
 -- Passed: what a search over the rules owes.
 pub mod Passed
 -- Near: when a later state is, near a line, as an earlier one was.

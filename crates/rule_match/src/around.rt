@@ -102,11 +102,10 @@ fn lines_around(alloc: Global, front: &Front, frame: &Frame) -> Result<Vec<(u64,
 {
     let _lines = front.lines();
     let near = range_box(frame);
+    let numbers = front.near_lines(alloc, &near)?;
     let mut lines = Vec::new(alloc);
-    let mut at = front.first_near(&near);
-    while let Some(here) = at {
-        add_line(&mut lines, front, frame, here.line)?;
-        at = front.next_near(&near, &here);
+    for number in &numbers {
+        add_line(&mut lines, front, frame, *number)?;
     }
     Ok(lines)
 }

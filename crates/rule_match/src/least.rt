@@ -14,7 +14,8 @@ ghost use Rattle.rule_match.specs.Candidate.{Attempt, IsCandidate};
 ghost use Rattle.rule_match.specs.Applied.{application};
 ghost use Rattle.rule_match.specs.Least.{HasNone, rank};
 ghost use Rattle.rule_match.specs.Best.{IsBest};
-ghost use Rattle.rule_match.specs.Passed.{IsOn, IsFind, IsLeastSoFar, NoneMayApply, state_at};
+ghost use Rattle.rule_match.specs.Idle.{NoneApplies, SomeMayApply};
+ghost use Rattle.rule_match.specs.Passed.{IsOn, IsFind, IsLeastSoFar, state_at};
 
 use super::application::Application;
 use super::base::Base;
@@ -41,9 +42,11 @@ fn may_apply(rule: &Compiled<'_>, class: u32) -> bool
     rule.inert().is_none() && rule.rule().quality <= class
 }
 
-/// Whether some rule may apply at the class.
-fn some_may_apply(rules: &RuleSet<'_>, class: u32) -> bool
-    ensures { result ≡ false → NoneMayApply class rules.now (length rules.now) }
+/// Whether some rule may apply at the class or below it: it is live, and its quality is at most the class.
+/// Where none may, no line of any front has a candidate there.
+pub fn some_may_apply(rules: &RuleSet<'_>, class: u32) -> bool
+    ensures some { result ≡ true → SomeMayApply class rules.now }
+    ensures none { result ≡ false → NoneApplies class rules.now }
 {
     for position in 0..rules.count() {
         if may_apply(rules.get(position + 1), class) {

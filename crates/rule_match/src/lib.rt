@@ -41,7 +41,7 @@ pub use assignment::Assignment;
 pub use badness::Badness;
 pub use found::Found;
 pub use fresh::search_fresh;
-pub use least::best;
+pub use least::{best, some_may_apply};
 pub use near::NearPoint;
 pub use out_of_reach::{Distance, greatest_reach, is_out_of_reach, reach_beyond};
 pub use progress::{Note, Progress};

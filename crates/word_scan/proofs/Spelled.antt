@@ -49,6 +49,9 @@ one side b w white run = record {
   says = refl;
 }
 
+pub regrouped : {side : ℕ × List ℕ → List ℕ} {a b : List ℕ} {words : List (List ℕ)} → a ≡ b → Spells side a words → Spells side b words
+regrouped e s = record { pieces = s.pieces; are = s.are; text = sym e ∙ s.text; says = s.says }
+
 -- ---- a line: a word, words with white bytes before them, and a white byte at the end
 
 -- the same words with the white bytes behind them

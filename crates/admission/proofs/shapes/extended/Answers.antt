@@ -1,24 +1,11 @@
-use Rattle.std.proofs.Common.{◌≡◌, ℤ, ◌≤ℤ◌, arith, to_z, of_z, w64}
+use Rattle.std.proofs.Common.{ℤ, ◌≤ℤ◌, arith}
 use Rattle.std.proofs.lemmas.Int.{ints, clamps}
 use Rattle.std.specs.Int.{int_max, int_min}
-use Rattle.admission.proofs.Spans.{least_is, most_is, least_within, most_within}
+use Rattle.admission.proofs.Spans.{least_within, most_within}
 use Rattle.admission.proofs.shapes.extended.Goals as goal
-use Rattle.admission.proofs.shapes.extended.Goals.{After-max-2}
-
-lo_x : (c : After-max-2) → to_z w64 (of_z w64 c.min.result) ≡ int_min c.args.by.x c.args.bounds.now.lo.x
-lo_x c = least_is _ _ _ c.requires.by_on.x_within c.requires.bounds_on.lo.x_within c.min.ensures.value
-
-lo_y : (c : After-max-2) → to_z w64 (of_z w64 c.min-2.result) ≡ int_min c.args.by.y c.args.bounds.now.lo.y
-lo_y c = least_is _ _ _ c.requires.by_on.y_within c.requires.bounds_on.lo.y_within c.min-2.ensures.value
-
-hi_x : (c : After-max-2) → to_z w64 (of_z w64 c.max.result) ≡ int_max c.args.by.x c.args.bounds.now.hi.x
-hi_x c = most_is _ _ _ c.requires.by_on.x_within c.requires.bounds_on.hi.x_within c.max.ensures.value
-
-hi_y : (c : After-max-2) → to_z w64 (of_z w64 c.max-2.result) ≡ int_max c.args.by.y c.args.bounds.now.hi.y
-hi_y c = most_is _ _ _ c.requires.by_on.y_within c.requires.bounds_on.hi.y_within c.max-2.ensures.value
 
 pub returns-clause-on_grid : goal.returns-clause-on_grid
-returns-clause-on_grid c = rw (lo_x c, lo_y c, hi_x c, hi_y c) (record {
+returns-clause-on_grid c = rw (c.box_between.ensures, c.box_between-2.ensures) (record {
   lo = record { x_within = least_within _ _ c.requires.by_on.x_within c.requires.bounds_on.lo.x_within; y_within = least_within _ _ c.requires.by_on.y_within c.requires.bounds_on.lo.y_within };
   hi = record { x_within = most_within _ _ c.requires.by_on.x_within c.requires.bounds_on.hi.x_within; y_within = most_within _ _ c.requires.by_on.y_within c.requires.bounds_on.hi.y_within };
 })
@@ -36,7 +23,7 @@ high_first : (u w : ℤ) → u ≤ℤ int_max u w
 high_first u w = omega (arith, ints, clamps)
 
 pub returns-clause-holds : goal.returns-clause-holds
-returns-clause-holds c = rw (lo_x c, lo_y c, hi_x c, hi_y c) (record { right_of_least = low_first _ _; left_of_greatest = high_first _ _; above_least = low_first _ _; below_greatest = high_first _ _ })
+returns-clause-holds c = rw (c.box_between.ensures, c.box_between-2.ensures) (record { right_of_least = low_first _ _; left_of_greatest = high_first _ _; above_least = low_first _ _; below_greatest = high_first _ _ })
 
 pub returns-clause-keeps : goal.returns-clause-keeps
-returns-clause-keeps c = rw (lo_x c, lo_y c, hi_x c, hi_y c) (λ p h. record { right_of_least = low _ _ _ h.right_of_least; left_of_greatest = high _ _ _ h.left_of_greatest; above_least = low _ _ _ h.above_least; below_greatest = high _ _ _ h.below_greatest })
+returns-clause-keeps c = rw (c.box_between.ensures, c.box_between-2.ensures) (λ p h. record { right_of_least = low _ _ _ h.right_of_least; left_of_greatest = high _ _ _ h.left_of_greatest; above_least = low _ _ _ h.above_least; below_greatest = high _ _ _ h.below_greatest })

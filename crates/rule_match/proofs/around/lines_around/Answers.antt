@@ -1,16 +1,14 @@
-use Rattle.std.proofs.Common.{subst, sym}
-use Rattle.rule_match.proofs.Gathered.{IsUnderWay, begins, goes_on, gets_shorter, all_gathered}
+use Rattle.std.proofs.Common.{arith, subst, sym}
+use Rattle.front_chain.specs.Front.{AreNear}
+use Rattle.rule_match.proofs.Gathered.{begins, goes_on, all_gathered}
 use Rattle.rule_match.proofs.around.lines_around.Goals as goal
 
-pub loop-at-init : goal.loop-at-init
-loop-at-init c = begins c.args.front.now c.args.frame.now c.range_box-near.result c.new-lines.result.items c.first_near-at.result c.new-lines.ensures.items c.lines-lines.ensures.holds c.first_near-at.ensures.first c.first_near-at.ensures.near
+pub loop-number-init : goal.loop-number-init
+loop-number-init c = begins c.args.front.now c.args.frame.now c.new-lines.result.items _ c.new-lines.ensures.items
 
-pub loop-at-smaller : goal.loop-at-smaller
-loop-at-smaller c = gets_shorter c.args.front.now c.range_box-near.result c.loop-at.at c.in-Some.here c.next_near-at.result c.in-Some.is c.lines-lines.ensures.holds c.next_near-at.ensures.next
-
-pub loop-at-preserved : goal.loop-at-preserved
-loop-at-preserved c = goes_on c.args.front.now c.args.frame.now c.range_box-near.result c.loop-at.lines.items c.add_line.new.lines.items c.in-Some.here c.next_near-at.result
-    (subst (IsUnderWay c.args.front.now c.args.frame.now c.range_box-near.result c.loop-at.lines.items) c.in-Some.is c.loop-at.invariant) c.in_ok-add_line.ensures c.next_near-at.ensures.next c.next_near-at.ensures.near
+pub loop-number-preserved : goal.loop-number-preserved
+loop-number-preserved c = goes_on _ c.loop-number.number-index c.loop-number.invariant c.in_ok-add_line.ensures
 
 pub returns-clause-all : goal.returns-clause-all
-returns-clause-all c = all_gathered c.args.front.now c.args.frame.now c.range_box-near.result c.loop-at.lines.items c.loop-at.at c.in_default.is c.lines-lines.ensures.holds c.range_box-near.ensures c.loop-at.invariant
+returns-clause-all c = all_gathered c.loop-number.number-index c.lines-lines.ensures.holds
+    (subst (AreNear c.args.front.now c.range_box-near.result) (sym c.deref-number-items.ensures.value) c.in_ok-numbers.ensures.near) (omega (arith, c.loop-number-test.false)) c.range_box-near.ensures c.loop-number.invariant

@@ -1,9 +1,5 @@
-use Rattle.std.proofs.Common.{length}
-use Rattle.rule_match.proofs.Gathered.{IsUnderWay, ahead_of}
+use Rattle.rule_match.proofs.Gathered.{IsUnderWay}
 use Rattle.rule_match.proofs.around.lines_around.Given as goal
 
-abbrev pub invariant-loop-at : goal.invariant-loop-at
-invariant-loop-at l = IsUnderWay l.front l.frame l.near l.lines.items l.at
-
-abbrev pub decreases-loop-at : goal.decreases-loop-at
-decreases-loop-at l = length (ahead_of l.front l.at)
+abbrev pub invariant-loop-number : goal.invariant-loop-number
+invariant-loop-number l = IsUnderWay l.front l.frame l.lines.items l.number-items l.number-index

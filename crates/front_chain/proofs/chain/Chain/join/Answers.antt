@@ -33,7 +33,7 @@ invariant_of-self c =
     let number = c.enlist-number.ensures.number in
     let start = c.point.ensures ∙ ap (λ v. point_at v.points c.args.side.from) (sym c.self.view_is) in
     let end = c.point-2.ensures ∙ ap (λ v. point_at v.points c.args.side.to) (sym c.self.view_is) in
-    let box = c.box_of-bounds.ensures ∙ (λ i. box_of (edge (start i) (end i))) in (
+    let box = c.box_between-bounds.ensures ∙ (λ i. box_of (edge (start i) (end i))) in (
       subst (λ made. AreTables c.self.inside.places.keys (slice_set c.self.inside.leaving.items (c.args.side.from - 1) (c.index_mut.result.now + 1)) made (λ s. get same_side c.insert.new.self s)) (sym c.enlist-number.ensures.made)
           (joined_at c.self.invariant.0 c.args.side c.index_mut.result.now c.enlist-number.result read number from to absent put.0),
       c.insert.ensures.unique,
