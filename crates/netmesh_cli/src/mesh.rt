@@ -7,13 +7,13 @@ ghost use Rattle.netmesh_cli.specs.Jobs.{AreInRange, IsMeshed, IsRunOutcome, Mes
 ghost use Rattle.netmesh_cli.specs.Jobs.{names_of_puts, puts_of, task_of_mesh};
 ghost use Rattle.netmesh_cli.specs.Served.{MakeRefused};
 
-use call_words::MeshCall;
 use super::geometry::take_geometry;
 use super::made::{Made, Put};
 use super::rule_file::take_rules;
 use super::run::{Input, make_run};
 use super::texts::{Texts, texts_of};
 use super::{Outcome, Refusal};
+use call_words::MeshCall;
 use folder_io::Folder;
 use mesh_run::{End, Gate};
 use std::alloc::{AllocError, Global};

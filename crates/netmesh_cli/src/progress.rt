@@ -3,10 +3,10 @@
 use mesh_run::Gate;
 use std::io::{IsTerminal, Write};
 use std::sync::atomic::{AtomicU64, Ordering};
-use std::time::{Duration, Instant};
+use std::time::Instant;
 
-/// How long the work goes on before anything is told.
-const SILENCE: Duration = Duration::from_secs(1);
+/// How many seconds the work goes on before anything is told.
+const SILENCE: u64 = 1;
 
 /// The gate that tells a person which domain begins, where standard error is a terminal and the work has
 /// gone on for a second.
@@ -39,7 +39,7 @@ impl<'a> Progress<'a> {
         match &self.began {
             None => false,
             Some(began) => match began.elapsed(self.rt) {
-                Ok(gone) => gone > SILENCE,
+                Ok(gone) => gone.as_secs() >= SILENCE,
                 Err(_) => false,
             },
         }
@@ -50,8 +50,7 @@ impl<'a> Gate for Progress<'a> {
     fn enter(&self, domain: u32) {
         let before = self.begun.fetch_add(1, Ordering::SeqCst);
         if self.is_long() {
-            let told = format!(
-                in self.rt.alloc();
+            let told = format!(in self.rt.alloc();
                 "netmesh: domain {domain} begins; before it {before} began\n"
             );
             if let Ok(line) = told {
