@@ -14,6 +14,8 @@
 -- Walks: walks of edge rows, step by step.
 -- OneWalk, OneVerdict: a mesh has one verdict.
 -- RowWinding, Partition, NoSharedSide: elements wind as boundaries do, and share no directed side.
+-- Noted: points noted as corners.
+-- Touching, NoCornerHangs: where sides' sums agree, no corner of an element hangs.
 -- Moves: the tests of an edge row's ends.
 pub mod Prefixes
 pub mod Apart
@@ -33,3 +35,6 @@ pub mod RowWinding
 pub mod Partition
 pub mod NoSharedSide
 pub mod Moves
+pub mod Touching
+pub mod NoCornerHangs
+pub mod Noted

@@ -30,7 +30,8 @@ use Rattle.geom_check.specs.Geometry.{PlanarMap, IsGeometry}
 use Rattle.vol_format.specs.declared.MeshElement.{MeshElement}
 use Rattle.vol_format.specs.declared.Mesh.{Mesh}
 use Rattle.mesh_check.specs.Parts.{NamesItsPoints, polygons_in}
-use Rattle.mesh_check.specs.Whole.{IsWhole, IsTurned}
+use Rattle.mesh_check.specs.Whole.{IsTurned}
+use Rattle.mesh_check.specs.Tight.{HasNoOtherFault}
 use Rattle.mesh_check.specs.Partition.{winds}
 use Rattle.mesh_check.proofs.Walks.{two_ends}
 use Rattle.mesh_check.proofs.Domains.{domains_above}
@@ -132,9 +133,16 @@ is_one : (z : ℤ) → IsZeroOrOne z → pos 1 ≤ℤ z → z ≡ pos 1
 is_one z (inl e) h = absurd (omega (arith, ints))
 is_one z (inr e) h = e
 
-pub no_shared_side : (g : PlanarMap) (m : Mesh) (i k : ℕ) (d : MeshElement) (s : Edge) → IsGeometry g → NamesItsPoints m → IsWhole g m → i < k → k < length m.elements
-    → Contains (sides (corners_of m.points (slice_index_or m.elements i d).corners)) s → ¬ (Contains (sides (corners_of m.points (slice_index_or m.elements k d).corners)) s)
-no_shared_side g m i k d s h n w o l first second = met (overlap (corners_of m.points a.corners) (corners_of m.points b.corners) s (edges_of g.points g.segments ++ all) (w.turned i d (omega (arith, o, l))) (w.turned k d l) first second (all_append IsEdge (edges_of g.points g.segments) all (segment_edges g h) (side_edges_all m.points m.elements turned)))
+-- all edges of geometry and mesh
+abbrev pub all_edges : PlanarMap → Mesh → List Edge
+all_edges g m = edges_of g.points g.segments ++ all_sides (map (λ (e : MeshElement). corners_of m.points e.corners) m.elements)
+
+pub edges_directed : (g : PlanarMap) (m : Mesh) → IsGeometry g → HasNoOtherFault g m → AllByRecursion IsEdge (all_edges g m)
+edges_directed g m h w = all_append IsEdge (edges_of g.points g.segments) (all_sides (map (λ (e : MeshElement). corners_of m.points e.corners) m.elements)) (segment_edges g h) (side_edges_all m.points m.elements (recursion_from_All (IsTurned m.points) m.elements w.turned))
+
+-- no place is in two open elements
+pub no_common : (g : PlanarMap) (m : Mesh) (i k : ℕ) (d : MeshElement) → IsGeometry g → NamesItsPoints m → HasNoOtherFault g m → i < k → k < length m.elements → ¬ (HaveCommonPoint (corners_of m.points (slice_index_or m.elements i d).corners) (corners_of m.points (slice_index_or m.elements k d).corners) (all_edges g m))
+no_common g m i k d h n w o l c = by_domain (cases_order a.domain b.domain)
   where
     a : MeshElement
     a = slice_index_or m.elements i d
@@ -145,37 +153,36 @@ no_shared_side g m i k d s h n w o l first second = met (overlap (corners_of m.p
     all : List Edge
     all = all_sides (map (λ (e : MeshElement). corners_of m.points e.corners) m.elements)
 
-    turned : AllByRecursion (IsTurned m.points) m.elements
-    turned = recursion_from_All (IsTurned m.points) m.elements w.turned
-
     above : (j : ℕ) → j < length m.elements → 0 < (slice_index_or m.elements j d).domain
     above j l = All-from_recursion (λ e. 0 < e.domain) m.elements (domains_above g m.elements h w.domains) j d l
 
-    met : HaveCommonPoint (corners_of m.points a.corners) (corners_of m.points b.corners) (edges_of g.points g.segments ++ all) → ⊥
-    met c = by_domain (cases_order a.domain b.domain)
-      where
-        q : RatPoint
-        q = c.at
+    q : RatPoint
+    q = c.at
 
-        off_segments : IsOff q (edges_of g.points g.segments)
-        off_segments = all_first (λ e. ¬ (IsOnClosed q e.a e.b)) (edges_of g.points g.segments) all c.off
+    off_segments : IsOff q (edges_of g.points g.segments)
+    off_segments = all_first (λ e. ¬ (IsOnClosed q e.a e.b)) (edges_of g.points g.segments) all c.off
 
-        free : AreNotNegative m.points q m.elements
-        free = not_negative m.points q m.elements c.rational turned (all_second (λ e. ¬ (IsOnClosed q e.a e.b)) (edges_of g.points g.segments) all c.off)
+    free : AreNotNegative m.points q m.elements
+    free = not_negative m.points q m.elements c.rational (recursion_from_All (IsTurned m.points) m.elements w.turned) (all_second (λ e. ¬ (IsOnClosed q e.a e.b)) (edges_of g.points g.segments) all c.off)
 
-        once_a : turns m.points q a ≡ pos 1
-        once_a = polygon_inside (corners_of m.points a.corners) q (w.turned i d (omega (arith, o, l))) c.rational c.in_first
+    once_a : turns m.points q a ≡ pos 1
+    once_a = polygon_inside (corners_of m.points a.corners) q (w.turned i d (omega (arith, o, l))) c.rational c.in_first
 
-        once_b : turns m.points q b ≡ pos 1
-        once_b = polygon_inside (corners_of m.points b.corners) q (w.turned k d l) c.rational c.in_second
+    once_b : turns m.points q b ≡ pos 1
+    once_b = polygon_inside (corners_of m.points b.corners) q (w.turned k d l) c.rational c.in_second
 
-        side : (domain : ℕ) → 0 < domain → IsZeroOrOne (winds q (polygons_in m.points domain m.elements))
-        side domain z = subst IsZeroOrOne (sums g m domain q n w z c.rational) (h.planar.winding domain z q c.rational off_segments)
+    side : (domain : ℕ) → 0 < domain → IsZeroOrOne (winds q (polygons_in m.points domain m.elements))
+    side domain z = subst IsZeroOrOne (sums g m domain q n w z c.rational) (h.planar.winding domain z q c.rational off_segments)
 
-        in_one : (domain j : ℕ) → 0 < domain → j < length m.elements → (slice_index_or m.elements j d).domain ≡ domain → turns m.points q (slice_index_or m.elements j d) ≡ pos 1 → wind q (boundary g.points domain g.segments) ≡ pos 1
-        in_one domain j z l e f = sums g m domain q n w z c.rational ∙ is_one (winds q (polygons_in m.points domain m.elements)) (side domain z) (one_at m.points q domain m.elements j d free l e f)
+    in_one : (domain j : ℕ) → 0 < domain → j < length m.elements → (slice_index_or m.elements j d).domain ≡ domain → turns m.points q (slice_index_or m.elements j d) ≡ pos 1 → wind q (boundary g.points domain g.segments) ≡ pos 1
+    in_one domain j z l e f = sums g m domain q n w z c.rational ∙ is_one (winds q (polygons_in m.points domain m.elements)) (side domain z) (one_at m.points q domain m.elements j d free l e f)
 
-        by_domain : (a.domain ≡ b.domain) ⊎ ((a.domain < b.domain) ⊎ (b.domain < a.domain)) → ⊥
-        by_domain (inl e) = not_two _ (side a.domain (above i (omega (arith, o, l)))) (two_at m.points q a.domain m.elements i k d free o l refl (sym e) once_a once_b)
-        by_domain (inr (inl e)) = h.planar.separate q c.rational off_segments (record { c = a.domain; d = b.domain; positive = above i (omega (arith, o, l)); ordered = e; in_c = in_one a.domain i (above i (omega (arith, o, l))) (omega (arith, o, l)) refl once_a; in_d = in_one b.domain k (above k l) l refl once_b })
-        by_domain (inr (inr e)) = h.planar.separate q c.rational off_segments (record { c = b.domain; d = a.domain; positive = above k l; ordered = e; in_c = in_one b.domain k (above k l) l refl once_b; in_d = in_one a.domain i (above i (omega (arith, o, l))) (omega (arith, o, l)) refl once_a })
+    by_domain : (a.domain ≡ b.domain) ⊎ ((a.domain < b.domain) ⊎ (b.domain < a.domain)) → ⊥
+    by_domain (inl e) = not_two _ (side a.domain (above i (omega (arith, o, l)))) (two_at m.points q a.domain m.elements i k d free o l refl (sym e) once_a once_b)
+    by_domain (inr (inl e)) = h.planar.separate q c.rational off_segments (record { c = a.domain; d = b.domain; positive = above i (omega (arith, o, l)); ordered = e; in_c = in_one a.domain i (above i (omega (arith, o, l))) (omega (arith, o, l)) refl once_a; in_d = in_one b.domain k (above k l) l refl once_b })
+    by_domain (inr (inr e)) = h.planar.separate q c.rational off_segments (record { c = b.domain; d = a.domain; positive = above k l; ordered = e; in_c = in_one b.domain k (above k l) l refl once_b; in_d = in_one a.domain i (above i (omega (arith, o, l))) (omega (arith, o, l)) refl once_a })
+
+pub no_shared_side : (g : PlanarMap) (m : Mesh) (i k : ℕ) (d : MeshElement) (s : Edge) → IsGeometry g → NamesItsPoints m → HasNoOtherFault g m → i < k → k < length m.elements
+    → Contains (sides (corners_of m.points (slice_index_or m.elements i d).corners)) s → ¬ (Contains (sides (corners_of m.points (slice_index_or m.elements k d).corners)) s)
+no_shared_side g m i k d s h n w o l first second = no_common g m i k d h n w o l
+    (overlap (corners_of m.points (slice_index_or m.elements i d).corners) (corners_of m.points (slice_index_or m.elements k d).corners) s (all_edges g m) (w.turned i d (omega (arith, o, l))) (w.turned k d l) first second (edges_directed g m h w))

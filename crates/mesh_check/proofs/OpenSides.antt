@@ -156,7 +156,7 @@ more_met spots a b i d best r h here before = number_either (IsMet spots a b i) 
       | inr k ↦ let e : m.at ≡ i = omega (arith, m.below) in inr (subst (λ (k : ℕ). IsMetAt (slice_index_or spots k d) a b n) e (m.met d))
     ])
 
-any_one : (P : Edge → Type 0) (e : Edge) → P e → Any P (e ∷ [])
+pub any_one : (P : Edge → Type 0) (e : Edge) → P e → Any P (e ∷ [])
 any_one P e p = (0, e, omega arith, refl, p)
 
 of_one : (P : Edge → Type 0) (e : Edge) → Any P (e ∷ []) → P e

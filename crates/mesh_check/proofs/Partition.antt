@@ -30,6 +30,7 @@ use Rattle.vol_format.specs.declared.Mesh.{Mesh}
 use Rattle.mesh_check.specs.Parts.{NamesItsPoints, row_edge, polygons_in, boundary_rows}
 use Rattle.mesh_check.specs.Walked.{places_of}
 use Rattle.mesh_check.specs.Whole.{IsChained, IsWhole}
+use Rattle.mesh_check.specs.Tight.{HasNoOtherFault}
 use Rattle.mesh_check.specs.Partition.{winds}
 use Rattle.mesh_check.proofs.Numbered.{AreListed, NameListed, JoinListed, IsNumbered, numbered, sides_listed}
 use Rattle.mesh_check.proofs.RowWinding.{walk_wind}
@@ -54,7 +55,7 @@ sides_join points domain (e ∷ es) h = chosen (nat_eq e.domain domain) (sides_j
     chosen true rest = all_append (JoinsPoints points) (sides (corners_of points e.corners)) (all_sides (polygons_in points domain es)) (subst (AllByRecursion (JoinsPoints points)) (side_edges points e.corners) (pairs_join points (number_sides e.corners) (sides_listed (length points) e.corners h.0))) rest
     chosen false rest = rest
 
-with_join : (P : Edge → Type 0) (b : Bool) (e : Edge) (es : List Edge) → P e → AllByRecursion P es → AllByRecursion P (with_edge b e es)
+pub with_join : (P : Edge → Type 0) (b : Bool) (e : Edge) (es : List Edge) → P e → AllByRecursion P es → AllByRecursion P (with_edge b e es)
 with_join P true e es h k = (h, k)
 with_join P false e es h k = k
 
@@ -91,7 +92,7 @@ joined_or_none points x es fs h k = elim (first_or_none points x es h) [
 ]
 
 -- ---- the chain
-same_domain_chain : (m : Mesh) (domain : ℕ) → IsNumbered m → IsChained m domain → IsSameChain (all_sides (polygons_in m.points domain m.elements)) (boundary_rows m.points domain m.edges)
+pub same_domain_chain : (m : Mesh) (domain : ℕ) → IsNumbered m → IsChained m domain → IsSameChain (all_sides (polygons_in m.points domain m.elements)) (boundary_rows m.points domain m.edges)
 same_domain_chain m domain h c = record { balanced = λ x. by_case x (joined_or_none m.points x es rs (sides_join m.points domain m.elements h.elements) (rows_join m.points domain m.edges h.rows)) }
   where
     es : List Edge
@@ -131,7 +132,10 @@ winds_are : (q : RatPoint) (polygons : List (List Point)) → wind q (all_sides 
 winds_are q [] = refl
 winds_are q (cs ∷ polygons) = wind_append q (sides cs) (all_sides polygons) ∙ ap (λ (z : ℤ). wind q (sides cs) +ℤ z) (winds_are q polygons)
 
-pub sums : (g : PlanarMap) (m : Mesh) (domain : ℕ) (q : RatPoint) → NamesItsPoints m → IsWhole g m → 0 < domain → IsRational q → wind q (boundary g.points domain g.segments) ≡ winds q (polygons_in m.points domain m.elements)
+pub filled : (g : PlanarMap) (m : Mesh) → IsWhole g m → HasNoOtherFault g m
+filled g m w = record { places = w.places; rows = w.rows; domains = w.domains; turned = w.turned; chained = w.chained }
+
+pub sums : (g : PlanarMap) (m : Mesh) (domain : ℕ) (q : RatPoint) → NamesItsPoints m → HasNoOtherFault g m → 0 < domain → IsRational q → wind q (boundary g.points domain g.segments) ≡ winds q (polygons_in m.points domain m.elements)
 sums g m domain q n w z k = sym (walk_wind q (places_of g m) domain 1 g.segments m.edges k w.rows)
     ∙ sym (same_wind q (all_sides (polygons_in m.points domain m.elements)) (boundary_rows m.points domain m.edges) (same_domain_chain m domain (numbered m w.places n) (w.chained domain z)))
     ∙ winds_are q (polygons_in m.points domain m.elements)

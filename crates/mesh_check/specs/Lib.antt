@@ -3,6 +3,7 @@
 -- Whole: the six faults, and meshes that have none.
 -- Verdict: the first fault, at its least place.
 -- Partition: winding numbers of elements, added up.
+-- Tight: meshes in which no point can hang, since all are corners.
 pub mod Parts
 pub mod Walked
 pub mod Whole
@@ -14,3 +15,4 @@ pub mod Least
 pub mod Stands
 pub mod Hung
 pub mod Balance
+pub mod Tight

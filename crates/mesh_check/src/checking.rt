@@ -1,8 +1,10 @@
 // The whole check of a mesh.
-ghost use Rattle.std.specs.Prelude.{◌≡◌, ℕ, ◌<◌, length, All, IfOk, IfSome, IfNone};
+ghost use Rattle.std.specs.Prelude.{◌≡◌, ℕ, ◌<◌, length, All, IsTrue, IfOk, IfSome, IfNone};
 ghost use Rattle.geom_check.specs.Accepted.{ArePlacesDifferent};
+ghost use Rattle.geom_check.specs.Refused.{IsLeastPair};
 ghost use Rattle.mesh_check.specs.Parts.{NamesItsPoints};
-ghost use Rattle.mesh_check.specs.Whole.{HasDomainOf, IsChained};
+ghost use Rattle.mesh_check.specs.Spots.{AreSpots};
+ghost use Rattle.mesh_check.specs.Whole.{DoRowsWalk, HasDomainOf, IsTurned, DoesHang, IsChained};
 ghost use Rattle.mesh_check.specs.Verdict.{IsLeastChain, IsVerdict};
 
 use crate::difference::{Difference, least_difference};
@@ -10,10 +12,59 @@ use crate::elements::{first_foreign, first_not_turned};
 use crate::hanging::hanging;
 use crate::rows::row_fault;
 use crate::spots::{Spot, same_place, sorted_spots};
+use crate::tight::is_tight;
 use crate::verdict::Verdict;
 use geom_check::Geometry;
 use std::alloc::{AllocError as OutOfMemory, Global};
 use vol_format::Mesh;
+
+/// The least pair of points at one place.
+fn place_fault(_g: &Geometry, m: &Mesh, spots: &[Spot]) -> Option<Verdict>
+    requires { AreSpots m.now.points spots.now }
+    ensures some { IfSome result (IsVerdict _g.now m.now) }
+    ensures none { IfNone result (ArePlacesDifferent m.now.points) }
+{
+    let (i, j) = same_place(m.points.as_slice(), spots)?;
+    Some(Verdict::SamePlace { i, j })
+}
+
+/// The first edge row by which the rows don't walk the segments.
+fn edge_fault(g: &Geometry, m: &Mesh) -> Option<Verdict>
+    requires names { NamesItsPoints m.now }
+    requires places { ArePlacesDifferent m.now.points }
+    ensures some { IfSome result (IsVerdict g.now m.now) }
+    ensures none { IfNone result (DoRowsWalk g.now m.now) }
+{
+    let row = row_fault(g, m)?;
+    Some(Verdict::Edges { row })
+}
+
+/// The least element of no domain.
+fn domain_fault(g: &Geometry, m: &Mesh) -> Option<Verdict>
+    requires places { ArePlacesDifferent m.now.points }
+    requires rows { DoRowsWalk g.now m.now }
+    ensures some { IfSome result (IsVerdict g.now m.now) }
+    ensures none { IfNone result (All (HasDomainOf g.now.domains) m.now.elements) }
+{
+    let element = first_foreign(g.domains(), m.elements.as_slice())?;
+    Some(Verdict::Domain { element })
+}
+
+/// The least element that is not positively turned.
+fn turn_fault(alloc: Global, g: &Geometry, m: &Mesh) -> Result<Option<Verdict>, OutOfMemory>
+    requires names { NamesItsPoints m.now }
+    requires places { ArePlacesDifferent m.now.points }
+    requires rows { DoRowsWalk g.now m.now }
+    requires domains { All (HasDomainOf g.now.domains) m.now.elements }
+    ensures some { IfOk result (λ found. IfSome found (IsVerdict g.now m.now)) }
+    ensures none { IfOk result (λ found. IfNone found
+        (All (IsTurned m.now.points) m.now.elements)) }
+{
+    match first_not_turned(alloc, m.points.as_slice(), m.elements.as_slice())? {
+        Some(element) => Ok(Some(Verdict::Turned { element })),
+        None => Ok(None),
+    }
+}
 
 /// The least domain and pair of points between which elements and boundary differ.
 fn least_chain(alloc: Global, g: &Geometry, m: &Mesh) -> Result<Option<Difference>, OutOfMemory>
@@ -29,38 +80,55 @@ fn least_chain(alloc: Global, g: &Geometry, m: &Mesh) -> Result<Option<Differenc
     least_difference(alloc, m.elements.as_slice(), m.edges.as_slice())
 }
 
-/// The verdict on a mesh for a geometry: its first fault, in the order of `Verdict`, at its least place,
-/// or that it is whole.
-///
-/// The numbers in the mesh are those of its points, and these are on the grid. Takes memory for the points
-/// and the sides in their order, and near-linear time where few points lie between the ends of a side in
-/// the order of their places.
-///
-/// # Errors
-///
-/// Want of memory alone.
-pub fn check_mesh(alloc: Global, g: &Geometry, m: &Mesh) -> Result<Verdict, OutOfMemory>
-    requires { NamesItsPoints m.now }
+/// The numbers of the least point in an open side and of the least such element. Points are searched
+/// for only where elements and boundaries differ, or a point is no corner of an element or is in an
+/// open edge row: else none hangs.
+fn hanging_point(
+    alloc: Global,
+    g: &Geometry,
+    m: &Mesh,
+    spots: &[Spot],
+    chain: &Option<Difference>,
+) -> Result<Option<(u64, u64)>, OutOfMemory>
+    requires spots { AreSpots m.now.points spots.now }
+    requires names { NamesItsPoints m.now }
+    requires places { ArePlacesDifferent m.now.points }
+    requires rows { DoRowsWalk g.now m.now }
+    requires domains { All (HasDomainOf g.now.domains) m.now.elements }
+    requires turned { All (IsTurned m.now.points) m.now.elements }
+    requires chained { IfNone chain.now ((domain : ℕ) → 0 < domain → IsChained m.now domain) }
+    ensures found { IfOk result (λ found. IfSome found
+        (λ pair. IsLeastPair (DoesHang m.now.points m.now.elements) pair.0 pair.1)) }
+    ensures none { IfOk result (λ found. IfNone found
+        ((i k : ℕ) → ¬ DoesHang m.now.points m.now.elements i k)) }
+{
+    let _domains = g.domains();
+    if chain.is_none() && is_tight(alloc, m, spots)? {
+        return Ok(None);
+    }
+    hanging(alloc, m.points.as_slice(), spots, m.elements.as_slice())
+}
+
+/// The verdict on a mesh that has none of the first four faults.
+fn side_verdict(
+    alloc: Global,
+    g: &Geometry,
+    m: &Mesh,
+    spots: &[Spot],
+) -> Result<Verdict, OutOfMemory>
+    requires spots { AreSpots m.now.points spots.now }
+    requires names { NamesItsPoints m.now }
+    requires places { ArePlacesDifferent m.now.points }
+    requires rows { DoRowsWalk g.now m.now }
+    requires domains { All (HasDomainOf g.now.domains) m.now.elements }
+    requires turned { All (IsTurned m.now.points) m.now.elements }
     ensures { IfOk result (IsVerdict g.now m.now) }
 {
-    let (points, elements) = (m.points.as_slice(), m.elements.as_slice());
-    let spots = sorted_spots(alloc, points)?;
-    if let Some((i, j)) = same_place(points, &spots) {
-        return Ok(Verdict::SamePlace { i, j });
-    }
-    if let Some(row) = row_fault(g, m) {
-        return Ok(Verdict::Edges { row });
-    }
-    if let Some(element) = first_foreign(g.domains(), elements) {
-        return Ok(Verdict::Domain { element });
-    }
-    if let Some(element) = first_not_turned(alloc, points, elements)? {
-        return Ok(Verdict::Turned { element });
-    }
-    if let Some((point, element)) = hanging(alloc, points, &spots, elements)? {
+    let chain = least_chain(alloc, g, m)?;
+    if let Some((point, element)) = hanging_point(alloc, g, m, spots, &chain)? {
         return Ok(Verdict::Hanging { point, element });
     }
-    match least_chain(alloc, g, m)? {
+    match chain {
         Some(chain) => Ok(Verdict::Chain {
             domain: chain.side.domain as u64,
             from: chain.side.from,
@@ -70,4 +138,35 @@ pub fn check_mesh(alloc: Global, g: &Geometry, m: &Mesh) -> Result<Verdict, OutO
         }),
         None => Ok(Verdict::Whole),
     }
+}
+
+/// The verdict on a mesh for a geometry: its first fault, in the order of `Verdict`, at its least place,
+/// or that it is whole.
+///
+/// The numbers in the mesh are those of its points, and these are on the grid. Takes memory for the points
+/// and the sides in their order. Takes near-linear time for a whole mesh of which few edge rows have many
+/// points between their ends from left to right; else, where sides don't agree, or a point is no corner or
+/// is in an edge row, as much more as there are points between the ends of the sides.
+///
+/// # Errors
+///
+/// Want of memory alone.
+pub fn check_mesh(alloc: Global, g: &Geometry, m: &Mesh) -> Result<Verdict, OutOfMemory>
+    requires { NamesItsPoints m.now }
+    ensures { IfOk result (IsVerdict g.now m.now) }
+{
+    let spots = sorted_spots(alloc, m.points.as_slice())?;
+    if let Some(fault) = place_fault(g, m, &spots) {
+        return Ok(fault);
+    }
+    if let Some(fault) = edge_fault(g, m) {
+        return Ok(fault);
+    }
+    if let Some(fault) = domain_fault(g, m) {
+        return Ok(fault);
+    }
+    if let Some(fault) = turn_fault(alloc, g, m)? {
+        return Ok(fault);
+    }
+    side_verdict(alloc, g, m, &spots)
 }

@@ -87,7 +87,7 @@ fn met(points: &[Point], spot: Spot, a: Point, b: Point) -> Option<usize>
 
 /// The least position of a point in the open side from a to b. Only the points between the two ends, in
 /// the order of places, are tried.
-fn least_on(points: &[Point], spots: &[Spot], a: Point, b: Point) -> Option<usize>
+pub fn least_on(points: &[Point], spots: &[Spot], a: Point, b: Point) -> Option<usize>
     requires spots { AreSpots points.now spots.now }
     requires on_grid { All IsOnGrid points.now }
     requires a_on { IsOnGrid a }

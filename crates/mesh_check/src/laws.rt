@@ -17,7 +17,8 @@ ghost use Rattle.mesh_check.specs.Parts.{NamesItsPoints, polygons_in};
 ghost use Rattle.mesh_check.specs.Partition.{winds};
 ghost use Rattle.mesh_check.specs.declared.verdict.Verdict.{Verdict};
 ghost use Rattle.mesh_check.specs.declared.verdict.Verdict.TheVariants.{Whole};
-ghost use Rattle.mesh_check.specs.Whole.{IsWhole};
+ghost use Rattle.mesh_check.specs.Whole.{IsWhole, DoesHang};
+ghost use Rattle.mesh_check.specs.Tight.{HasNoOtherFault, IsTight};
 ghost use Rattle.mesh_check.specs.Verdict.{IsVerdict};
 
 /// A mesh has one verdict for a geometry. So one that is whole has no fault's, and one with a fault's is
@@ -46,4 +47,11 @@ pub fn law_partition()
         IsGeometry g → NamesItsPoints m → IsWhole g m → i < k → k < length m.elements →
         Contains (sides (corners_of m.points (slice_index_or m.elements i e).corners)) side →
         ¬ Contains (sides (corners_of m.points (slice_index_or m.elements k e).corners)) side }
+{}
+
+/// Where a mesh has none of the other faults, each of its points is a corner of an element, and none is
+/// in an open edge row, no point hangs. So sides that are counted and agree spare the search.
+pub fn law_tight()
+    ensures { (g : PlanarMap) (m : Mesh) → IsGeometry g → NamesItsPoints m → HasNoOtherFault g m →
+        IsTight m → (i k : ℕ) → ¬ DoesHang m.points m.elements i k }
 {}

@@ -6,6 +6,9 @@
 //! 3. Edge rows are walked along the segments, one after another.
 //! 4. Sides are sorted by their domains, starts and ends: where elements and boundaries agree, each
 //!    side stands as often as its turn.
+//! 5. Sides are counted before points are searched for. Where they agree, no corner of an element is in
+//!    an open side but in one that is an edge row (`laws::law_tight`). So edge rows alone are looked at
+//!    where all points are corners; else the points between each side's ends are.
 #![tactic(auto)]
 
 mod checking;
@@ -16,6 +19,7 @@ pub mod laws;
 mod rows;
 mod sides;
 mod spots;
+mod tight;
 mod verdict;
 
 pub use checking::check_mesh;
