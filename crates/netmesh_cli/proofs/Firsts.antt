@@ -116,9 +116,9 @@ rejected_at : (held : Option Files) (r : Refusal) (file : Taken) (bytes : List �
 rejected_at held r file bytes told may = (may.0, told_both held _ _ _ (λ files holds rejected. record { bytes = bytes; holds = holds; rejected = rejected }) told may.1)
 
 pub take_of_bytes : (before now : FolderState) (r : Refusal) (file : Taken) (taken bytes : List ℕ) → bytes ≡ taken → Told before.held (λ files. HoldsWithin (limit_of file.kind) files file.name taken) → MayReject before.held file.kind bytes r → TakeRefused before now r file
-take_of_bytes before now r file taken bytes same told may = go r (subst (λ (b : List ℕ). MayReject before.held file.kind b r) same may)
+take_of_bytes before now r file taken bytes same told may = let at = subst (λ (b : List ℕ). MayReject before.held file.kind b r) same may in go r at.refused
   where
-    go : (r : Refusal) → MayReject before.held file.kind taken r → TakeRefused before now r file
+    go : (r : Refusal) → MayRefuse (RejectedBeside before.held file.kind taken) r → TakeRefused before now r file
     go (Words fault) may = rejected_at before.held (Words fault) file taken told may
     go (In2d fault) may = rejected_at before.held (In2d fault) file taken told may
     go (Geometry fault) may = rejected_at before.held (Geometry fault) file taken told may

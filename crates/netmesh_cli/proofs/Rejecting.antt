@@ -16,8 +16,9 @@ use Rattle.netmesh_cli.proofs.Tolds.{told_all, told_weaker}
 abbrev pub RejectedBeside : Option Files → Kind → List ℕ → Refusal → Type 0
 RejectedBeside held kind bytes r = CanReject kind r × Told held (λ files. Rejects files kind bytes r)
 
-abbrev pub MayReject : Option Files → Kind → List ℕ → Refusal → Type 0
-MayReject held kind bytes r = MayRefuse (RejectedBeside held kind bytes) r
+-- the bytes of a file of this kind may be refused so, or memory was
+pub record MayReject (held : Option Files) (kind : Kind) (bytes : List ℕ) (r : Refusal) : Type 0 where
+  pub refused : MayRefuse (RejectedBeside held kind bytes) r
 
 may_weaker : (P Q : Refusal → Type 0) (r : Refusal) → ((s : Refusal) → P s → Q s) → MayRefuse P r → MayRefuse Q r
 may_weaker P Q (Words fault) all may = all (Words fault) may
@@ -33,7 +34,9 @@ may_weaker P Q (NotYet part) all may = all (NotYet part) may
 
 -- a reader that looks at the bytes alone
 of_bytes : (held : Option Files) (kind : Kind) (bytes : List ℕ) (r : Refusal) (P : Refusal → Type 0) → ((s : Refusal) → P s → CanReject kind s) → ((files : Files) (s : Refusal) → P s → Rejects files kind bytes s) → MayRefuse P r → MayReject held kind bytes r
-of_bytes held kind bytes r P can rejects may = may_weaker P (RejectedBeside held kind bytes) r (λ s p. (can s p, told_all held (λ files. Rejects files kind bytes s) (λ files is. rejects files s p))) may
+of_bytes held kind bytes r P can rejects may = record {
+  refused = may_weaker P (RejectedBeside held kind bytes) r (λ s p. (can s p, told_all held (λ files. Rejects files kind bytes s) (λ files is. rejects files s p))) may;
+}
 
 -- ---- a geometry
 
@@ -101,7 +104,8 @@ mesh_can shift bytes Memory rejects = rejects
 mesh_can shift bytes (NotYet part) rejects = rejects
 
 pub mesh_may : (held : Option Files) (geometry bytes : List ℕ) (raw : RawGeometry) (g : PlanarMap) (r : Refusal) → Told held (λ files. HoldsGeometry files geometry raw g) → MayRefuse (VolRejects g.shift bytes) r → MayReject held (AMesh geometry) bytes r
-mesh_may held geometry bytes raw g r holds may =
-    may_weaker (VolRejects g.shift bytes) (RejectedBeside held (AMesh geometry) bytes) r
-    (λ s refused. (mesh_can g.shift bytes s refused, told_weaker held (λ files. HoldsGeometry files geometry raw g) (λ files. MeshRejects files geometry bytes s) (λ files h. record { raw = raw; grid = g; held = h; refused = refused }) holds))
-    may
+mesh_may held geometry bytes raw g r holds may = record {
+  refused = may_weaker (VolRejects g.shift bytes) (RejectedBeside held (AMesh geometry) bytes) r
+      (λ s refused. (mesh_can g.shift bytes s refused, told_weaker held (λ files. HoldsGeometry files geometry raw g) (λ files. MeshRejects files geometry bytes s) (λ files h. record { raw = raw; grid = g; held = h; refused = refused }) holds))
+      may;
+}
