@@ -1,7 +1,8 @@
--- Where elements and boundaries agree, no corner of an element is in an open side: one such side has its reverse in an element too, or is an edge row.
--- The element of the corner reaches to one of the two sides, and there it would overlap another element. So in a tight mesh no point hangs.
+-- Where elements and boundaries agree, each side has its reverse in an element too, or is an edge row. The element of a
+-- corner in an open side reaches to the left of the side or of its reverse, and there it would overlap another element.
+-- So in a tight mesh no point hangs.
 -- Stands on Touching and NoSharedSide.
-use Rattle.std.proofs.Common.{◌≡◌, ◌⊎◌, ℕ, zero, suc, ◌+◌, ◌-◌, ◌<◌, ◌≤◌, ◌==◌, nat_eq, Bool, true, false, cond, List, [], ◌∷◌, ◌++◌, length, map, filter, slice_index_or, All, Any, inl, inr, refl, sym, ◌∙◌, ap, subst, arith}
+use Rattle.std.proofs.Common.{◌≡◌, ◌⊎◌, ℕ, zero, suc, ◌+◌, ◌-◌, ◌<◌, ◌≤◌, ◌==◌, nat_eq, Bool, true, false, cond, List, [], ◌∷◌, ◌++◌, length, map, filter, slice_index_or, inl, inr, sym, ap, subst, arith}
 use lib.IntN.{pos}
 use Rattle.std.proofs.lemmas.Bool.{cases_lt, cases_order}
 use Rattle.std.specs.List.{AllByRecursion, Contains}

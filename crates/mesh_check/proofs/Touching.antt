@@ -1,6 +1,7 @@
--- Two strictly convex polygons have a common rational point, off all edges of a list, where the second touches an open side of the first, at a place v,
--- from that side's left. It lies near v: v is strictly left of all other sides of the first. Stands on grid_geom's Near.
-use Rattle.std.proofs.Common.{◌≡◌, ◌⊎◌, List, [], ◌∷◌, ◌++◌, inl, inr, refl, sym, ◌∙◌, ap, subst, arith}
+-- Two strictly convex polygons have a common rational point, off all edges of a list, where the second touches an open
+-- side of the first, at a place v, and reaches to that side's left. It lies near v: v is strictly left of all other
+-- sides of the first. Stands on grid_geom's Near.
+use Rattle.std.proofs.Common.{◌≡◌, ◌⊎◌, List, [], ◌∷◌, ◌++◌, inl, inr, refl, sym, ◌∙◌, subst, arith}
 use lib.IntN.{ℤ, pos, ◌+ℤ◌, ◌-ℤ◌, ◌*ℤ◌}
 use lib.Signed.{◌<ℤ◌, ◌≤ℤ◌}
 use Rattle.std.proofs.lemmas.Int.{ints}

@@ -1,6 +1,5 @@
 use Rattle.std.proofs.Common.{◌<◌, List, length, All, sym, subst}
 use Rattle.grid_geom.specs.declared.Point.{Point}
-use Rattle.vol_format.specs.declared.EdgeRow.{EdgeRow}
 use Rattle.vol_format.specs.declared.MeshElement.{MeshElement}
 use Rattle.mesh_check.specs.Tight.{IsNamed, IsRowFree}
 use Rattle.mesh_check.proofs.tight.is_tight.Goals as goal
