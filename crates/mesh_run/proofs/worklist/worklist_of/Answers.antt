@@ -24,7 +24,7 @@ loop-next-preserved c =
       there = subst (IsThere f.lines) (sym c.next_line-next-in-Some.ensures) (there_above f.lines c.in-Some.line);
       on = subst (AreOnTo c.add_line.new.work f.lines refused last) (sym c.next_line-next-in-Some.ensures)
           (one_more_on f.lines f.next c.lines-lines.ensures.holds.rising refused last c.loop-next.work c.add_line.new.work c.in-Some.line
-          (subst (AreOnTo c.loop-next.work f.lines refused last) c.in-Some.is c.loop-next.invariant.on) c.add_line.ensures.stay c.add_line.ensures.added);
+          (subst (AreOnTo c.loop-next.work f.lines refused last) c.in-Some.is c.loop-next.invariant.on) c.add_line.ensures.stay c.in_ok-add_line.ensures.added);
     }
 
 pub returns : goal.returns
