@@ -24,7 +24,7 @@ use Rattle.run_log.specs.Numbers.{greatest_whole, fixed_need, number_need, signe
 use Rattle.run_log.specs.Log.{heading, ending, run_row, limit_word, end_word, opening_points, row_counts, domain_row, place_words, point_row, line_row, counted_numbers, application_row, front_row, domain_text, log_lines}
 use Rattle.run_log.specs.Grammar.{counted, place, opening_point, opening_line, element, application, applications, front_line, all_points, domain_run, domains, options, log, Reads}
 use Rattle.run_log.specs.Ranges.{OptionsInRange, LineInRange, ElementInRange, ApplicationInRange, AreInRange, FrontInRange, RunInRange, AreRunsInRange, InRanges}
-use Rattle.run_log.proofs.Words.{IsSigned, from_to, whole_run, signed_says, signed_run, limit_says, limit_run, end_says, end_run}
+use Rattle.run_log.proofs.LineWords.{IsSigned, from_to, whole_run, signed_says, signed_run, limit_says, limit_run, end_says, end_run}
 
 -- the bytes are words, each with a white byte on this side, which have the form and say this
 record Prints {A : Type 0} (side : ℕ × Word → List ℕ) (form : Form A) (bytes : List ℕ) (x : A) : Type 0 where

@@ -10,7 +10,7 @@ pub mod Loops
 pub mod Steps
 pub mod Rising
 -- The log that is written of a run is read again: its words, and its lines.
-pub mod Words
+pub mod LineWords
 pub mod Again
 -- Viewing: the table of lines, gluing sides one after another, the run that is found is the log's; lines rise, and the least leaves.
 pub mod Kept
