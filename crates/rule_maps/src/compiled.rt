@@ -7,12 +7,12 @@ ghost use Rattle.rule_reader.specs.Normal.{IsRule};
 ghost use Rattle.rule_maps.specs.Frame.{IsInRange};
 ghost use Rattle.rule_maps.specs.Places.{mapping, new_point, corner};
 ghost use Rattle.rule_maps.specs.Inert.{IsLive, HasState};
-ghost use Rattle.rule_maps.specs.Reach.{IsReachOf};
+ghost use Rattle.rule_maps.specs.Reach.{IsLeeway, IsReachBy, IsReachOf};
 
 use crate::frame::Frame;
 use crate::inert::{Inert, state_of};
 use crate::placing::put;
-use crate::reach::reach_of;
+use crate::reach::{Leeway, reach_from, reach_of};
 use crate::sums::{PlaceConstants, all_constants, mixed, numerators};
 use grid_geom::Point;
 use rule_reader::Rule;
@@ -49,7 +49,7 @@ impl<'a> Model for Compiled<'a> {
         }) };
 }
 
-/// Makes a rule fit for use. It takes memory for a few numbers of each new point and corner.
+/// Makes a rule fit for use. It takes memory for a few numbers of each mapped point, new point and corner.
 pub fn compile<'a>(alloc: Global, rule: &'a Rule) -> Result<Compiled<'a>, OutOfMemory>
     requires { IsRule rule.now }
     ensures { IfOk result (λ c. c ≡ rule.now) }
@@ -61,7 +61,7 @@ pub fn compile<'a>(alloc: Global, rule: &'a Rule) -> Result<Compiled<'a>, OutOfM
         area: all_constants(alloc, rule.area.as_slice(), points)?,
         limit: all_constants(alloc, rule.limit.as_slice(), points)?,
         inert: state_of(alloc, rule)?,
-        reach: reach_of(rule),
+        reach: reach_of(alloc, rule)?,
     })
 }
 
@@ -88,6 +88,17 @@ impl<'a> Compiled<'a> {
         ensures { IsReachOf self.now result }
     {
         self.reach
+    }
+
+    /// How far it reaches where each of its mapped points is no farther from its place in the rule than its
+    /// leeway: the least whole number that is at least 3 and no less than the absolute value of each local
+    /// coordinate of its new points and corners there.
+    pub fn reach_by(&self, leeways: &[Leeway]) -> u64
+        requires count { length leeways.now ≡ length self.now.points }
+        requires leeways { All IsLeeway leeways.now }
+        ensures { IsReachBy leeways.now self.now result }
+    {
+        reach_from(3, self.rule, leeways)
     }
 
     /// The place of new point `k`, counted from 1, where it is on the grid.

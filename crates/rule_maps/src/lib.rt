@@ -18,6 +18,7 @@ mod sums;
 pub use compiled::{Compiled, compile};
 pub use frame::Frame;
 pub use inert::Inert;
+pub use reach::{Leeway, leeway_in_range};
 pub use rule_set::RuleSet;
 pub use std::alloc::AllocError as OutOfMemory;
 

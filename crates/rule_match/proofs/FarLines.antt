@@ -1,12 +1,12 @@
 -- A front line whose reach lies beside an area, above or below it.
-use Rattle.std.proofs.Common.{◌≡◌, ℕ, ◌+◌, ◌*◌, ◌<◌, ◌≤◌, ◌⊎◌, inl, inr, List, [], ◌∷◌, ◌++◌, length, take, slice_index_or, subst, sym, ap, ◌∙◌, refl, arith, ℤ, pos, ◌+ℤ◌, ◌-ℤ◌, ◌<ℤ◌, ◌≤ℤ◌, Some}
+use Rattle.std.proofs.Common.{◌≡◌, ℕ, ◌+◌, ◌*◌, ◌<◌, ◌≤◌, ◌⊎◌, inl, inr, List, [], ◌∷◌, ◌++◌, length, map, take, slice_index_or, subst, sym, ap, ◌∙◌, refl, arith, ℤ, pos, ◌+ℤ◌, ◌-ℤ◌, ◌<ℤ◌, ◌≤ℤ◌, Some}
 use Rattle.std.proofs.lemmas.Int.{ints}
 use Rattle.std.specs.List.{AllByRecursion, Contains}
 use Rattle.std.proofs.lemmas.List.{take_more}
 use Rattle.rule_reader.specs.declared.rule.Rule.{Rule}
 use Rattle.rule_reader.specs.declared.rule.Place.{Place}
 use Rattle.rule_reader.specs.Normal.{IsRule}
-use Rattle.rule_maps.specs.Reach.{Covers, IsReachOf, extent_of}
+use Rattle.rule_maps.specs.Reach.{in_range, Covers, IsReachOf, extent_of}
 use Rattle.state_law.proofs.Lists.{all_append, all_map}
 use Rattle.grid_geom.specs.declared.Point.{Point}
 use Rattle.grid_geom.specs.declared.Bounds.{Bounds}
@@ -65,8 +65,8 @@ covers_more r n m l h = record { least = reaches 13 n m h.least l; new_points = 
     scaled : (e n m : ℕ) → n ≤ m → e ≤ 100000000 * n → e ≤ 100000000 * m
     scaled e n m l h = omega arith
 
-    places : (ps : List Place) → AllByRecursion (λ p. extent_of r.points p ≤ 100000000 * n) ps → AllByRecursion (λ p. extent_of r.points p ≤ 100000000 * m) ps
-    places ps h = all_map (λ p. extent_of r.points p ≤ 100000000 * n) (λ p. extent_of r.points p ≤ 100000000 * m) (λ p k. scaled (extent_of r.points p) n m l k) ps h
+    places : (ps : List Place) → AllByRecursion (λ p. extent_of (map in_range r.points) p ≤ 100000000 * n) ps → AllByRecursion (λ p. extent_of (map in_range r.points) p ≤ 100000000 * m) ps
+    places ps h = all_map (λ p. extent_of (map in_range r.points) p ≤ 100000000 * n) (λ p. extent_of (map in_range r.points) p ≤ 100000000 * m) (λ p k. scaled (extent_of (map in_range r.points) p) n m l k) ps h
 
 pub one_more_covered : (rules : List Rule) (k greatest reach next : ℕ) (r : Rule) → k < length rules → slice_index_or rules k r ≡ r → IsRule r → IsReachOf r reach → greatest ≤ next → reach ≤ next
     → AllByRecursion (IsCoveredBy greatest) (take k rules) → AllByRecursion (IsCoveredBy next) (take (k + 1) rules)

@@ -12,8 +12,9 @@ use Rattle.rule_reader.specs.Normal.{IsRule, IsMapLine, Names}
 use Rattle.rule_maps.specs.Frame.{LocalFrame, IsFrame, IsInRange}
 use Rattle.rule_maps.specs.Places.{Mapping, IsMapping}
 use Rattle.rule_maps.specs.Inert.{HasBadZone}
-use Rattle.rule_maps.specs.Reach.{Covers, IsInReach}
-use Rattle.rule_maps.proofs.InReach.{mapped_in_reach, new_point_in_reach, corner_in_reach}
+use Rattle.rule_maps.specs.declared.reach.Leeway.{Leeway}
+use Rattle.rule_maps.specs.Reach.{in_range, Covers, IsInReach}
+use Rattle.rule_maps.proofs.InReach.{IsCoveredOn, all_in_range, mapped_in_reach, new_point_near, corner_near}
 use Rattle.state_law.specs.State.{State, point_at, pair_edge, corners_of}
 use Rattle.state_law.specs.Saved.{AreInBox, IsCorner}
 use Rattle.state_law.specs.Reach.{IsWithinReach}
@@ -53,24 +54,24 @@ in_box n f p h = record {
     greatest : (w x a : ℤ) → (x -ℤ a) ≤ℤ w → x ≤ℤ (a +ℤ w)
     greatest w x a h = omega (arith, ints)
 
--- what a rule that n covers uses on a line
-record IsCoveredMapping (n : ℕ) (m : Mapping) : Type 0 where
-  maps : IsMapping m
-  covers : Covers m.rule n
+-- what a rule uses on a line whose mapped points are within leeways with which n covers it
+record IsCoveredMapping (leeways : List Leeway) (from n : ℕ) (m : Mapping) : Type 0 where
+  by : IsCoveredOn m leeways from n
   good_zone : ¬ (HasBadZone m.rule)
 
 abbrev InReach : ℕ → Mapping → Point → Type 0
 InReach n m = IsBoxed (reach_lo n m.frame) (reach_hi n m.frame)
 
-made_in : (n : ℕ) (m : Mapping) (k : ℕ) (ps : List Place) → IsCoveredMapping n m → 1 ≤ k → k + length ps ≡ length m.rule.new_points + 1 → AllByRecursion (InReach n m) (made_from m k ps)
-made_in n m k [] h l e = tt
-made_in n m k (p ∷ ps) h l e = (in_box n m.frame _ (new_point_in_reach m n k h.maps h.covers l (omega (arith, e))), made_in n m (k + 1) ps h (omega arith) (omega (arith, e)))
+module _ (leeways : List Leeway) (from n : ℕ) (m : Mapping) (h : IsCoveredMapping leeways from n m) where
+  made_in : (k : ℕ) (ps : List Place) → 1 ≤ k → k + length ps ≡ length m.rule.new_points + 1 → AllByRecursion (InReach n m) (made_from m k ps)
+  made_in k [] l e = tt
+  made_in k (p ∷ ps) l e = (in_box n m.frame _ (new_point_near m leeways from n h.by k l (omega (arith, e))), made_in (k + 1) ps (omega arith) (omega (arith, e)))
 
-zone_in : (n : ℕ) (m : Mapping) (class k : ℕ) (ps : List Place) → IsCoveredMapping n m → 1 ≤ class → 1 ≤ k → k + length ps ≡ length m.rule.area + 1 → AllByRecursion (InReach n m) (zone_from m class k ps)
-zone_in n m class k [] h c l e = tt
-zone_in n m class k (p ∷ ps) h c l e = (in_box n m.frame _ (corner_in_reach m n k class h.maps h.covers h.good_zone l (omega (arith, e)) c), zone_in n m class (k + 1) ps h c (omega arith) (omega (arith, e)))
+  zone_in : (class k : ℕ) (ps : List Place) → 1 ≤ class → 1 ≤ k → k + length ps ≡ length m.rule.area + 1 → AllByRecursion (InReach n m) (zone_from m class k ps)
+  zone_in class k [] c l e = tt
+  zone_in class k (p ∷ ps) c l e = (in_box n m.frame _ (corner_near m leeways from n h.by k class h.good_zone l (omega (arith, e)) c), zone_in class (k + 1) ps c (omega arith) (omega (arith, e)))
 
-mapped_in : (n : ℕ) (f : LocalFrame) (ps : List Point) → IsFrame f → 13 ≤ n → AllByRecursion (IsInRange f) ps → AllByRecursion (IsBoxed (reach_lo n f) (reach_hi n f)) ps
+mapped_in : (n : ℕ) (f : LocalFrame) (ps : List Point) → IsFrame f → 3 ≤ n → AllByRecursion (IsInRange f) ps → AllByRecursion (IsBoxed (reach_lo n f) (reach_hi n f)) ps
 mapped_in n f ps h l r = all_map (IsInRange f) (IsBoxed (reach_lo n f) (reach_hi n f)) (λ p i. in_box n f p (mapped_in_reach f n p h l i)) ps r
 
 -- the place with a number is one of the list's
@@ -101,17 +102,20 @@ lines_in pts ns count (l ∷ lines) e h = ((number_corner pts (nth ns l.i) ns (a
         below : (k m n : ℕ) → 0 < k → k ≤ m → n ≡ m → k - 1 < n
         below k m n l i e = omega (arith, e)
 
-pub within_reach : (n : ℕ) (st : State) (t : Attempt) → 1 ≤ t.class → IsFrame t.frame → IsRule t.text → Covers t.text n → IsCandidate st t → IsWithinReach (reach_lo n t.frame) (reach_hi n t.frame) (places_of st t)
-within_reach n st t class frame rule covers c =
-    let m = mapping st t in let P : Point → Type 0 = IsBoxed (reach_lo n t.frame) (reach_hi n t.frame) in
-    let maps : IsMapping m = record { frame = frame; rule = rule; count = length-map t.points (point_at st.points) ∙ c.counted; range = All-from_recursion (IsInRange t.frame) (mapped st t) c.in_range } in
-    let h : IsCoveredMapping n m = record { maps = maps; covers = covers; good_zone = c.live.good_zone } in
-    let all = mapped_in n t.frame (mapped st t) frame covers.least c.in_range in
-    let new = made_in n m 1 t.text.new_points h (omega arith) (one_more (length t.text.new_points)) in
+-- a candidate's mapped points are points in range, as many as the rule maps
+pub maps_of : (st : State) (t : Attempt) → IsFrame t.frame → IsRule t.text → IsCandidate st t → IsMapping (mapping st t)
+maps_of st t frame rule c = record { frame = frame; rule = rule; count = length-map t.points (point_at st.points) ∙ c.counted; range = All-from_recursion (IsInRange t.frame) (mapped st t) c.in_range }
+
+pub within_by : (leeways : List Leeway) (from n : ℕ) (st : State) (t : Attempt) → 3 ≤ n → 1 ≤ t.class → IsCoveredOn (mapping st t) leeways from n → IsCandidate st t → IsWithinReach (reach_lo n t.frame) (reach_hi n t.frame) (places_of st t)
+within_by leeways from n st t wide class by c =
+    let m = mapping st t in let P : Point → Type 0 = IsBoxed (reach_lo n t.frame) (reach_hi n t.frame) in let rule = by.maps.rule in
+    let h : IsCoveredMapping leeways from n m = record { by = by; good_zone = c.live.good_zone } in
+    let all = mapped_in n t.frame (mapped st t) by.maps.frame wide c.in_range in
+    let new = made_in leeways from n m h 1 t.text.new_points (omega arith) (one_more (length t.text.new_points)) in
     record {
       mapped = boxed _ _ (mapped st t) all;
       lines_join = lines_in st.points t.points (length t.text.points) t.text.lines c.counted rule.lines.1;
-      zone = boxed _ _ (zone st t) (zone_in n m t.class 1 t.text.area h class (omega arith) (one_more (length t.text.area)));
+      zone = boxed _ _ (zone st t) (zone_in leeways from n m h t.class 1 t.text.area class (omega arith) (one_more (length t.text.area)));
       zone_turned = c.zone_convex;
       elements = all_map (AllByRecursion P) (AreInBox (reach_lo n t.frame) (reach_hi n t.frame)) (λ ps a. boxed _ _ ps a) _
           (all_named P (mapped st t ++ made st t) t.text.elements (length t.text.points + length t.text.new_points)
@@ -121,3 +125,11 @@ within_reach n st t class frame rule covers c =
   where
     one_more : (n : ℕ) → 1 + n ≡ n + 1
     one_more n = omega arith
+
+-- with the leeways of points in range
+pub within_reach : (n : ℕ) (st : State) (t : Attempt) → 1 ≤ t.class → IsFrame t.frame → IsRule t.text → Covers t.text n → IsCandidate st t → IsWithinReach (reach_lo n t.frame) (reach_hi n t.frame) (places_of st t)
+within_reach n st t class frame rule covers c = let maps = maps_of st t frame rule c in
+    within_by (map in_range t.text.points) 13 n st t (wide n covers.least) class (record { maps = maps; near = all_in_range (mapping st t) maps; covers = covers }) c
+  where
+    wide : (n : ℕ) → 13 ≤ n → 3 ≤ n
+    wide n l = omega arith

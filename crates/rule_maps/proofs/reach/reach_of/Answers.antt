@@ -1,5 +1,7 @@
-use Rattle.rule_maps.proofs.Reaches.{reach_is}
+use Rattle.std.proofs.lemmas.List.Elements.{All-from_recursion}
+use Rattle.rule_maps.specs.Reach.{IsLeeway}
+use Rattle.rule_maps.proofs.Reaches.{ranges}
 use Rattle.rule_maps.proofs.reach.reach_of.Goals as goal
 
-pub returns : goal.returns
-returns c = rw (c.max-3.ensures, c.div_ceil.ensures, c.max-2.ensures, c.max.ensures, c.farthest-new_points.ensures.value, c.farthest-area.ensures.value, c.farthest-limit.ensures.value, c.as_slice-points.ensures, c.as_slice.ensures, c.as_slice-2.ensures, c.as_slice-3.ensures) (reach_is c.args.rule.now)
+pub reach_from-requires-clause-leeways : goal.reach_from-requires-clause-leeways
+reach_from-requires-clause-leeways c = rw (c.deref.ensures.value, c.in_ok-leeways.ensures, c.as_slice.ensures) (All-from_recursion IsLeeway _ (ranges c.args.rule.now.points c.requires.points.1))

@@ -5,6 +5,6 @@ use Rattle.rule_maps.proofs.reach.stretch.Given as goal
 
 abbrev pub invariant-loop-term : goal.invariant-loop-term
 invariant-loop-term l = record {
-  ahead : l.sum + stretch l.points (drop l.term-index l.row) ≡ stretch l.points l.row;
+  ahead : l.sum + stretch l.leeways (drop l.term-index l.row) ≡ stretch l.leeways l.row;
   small : l.sum ≤ l.term-index * SHARE;
 }
