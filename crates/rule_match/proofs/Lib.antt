@@ -42,3 +42,6 @@ pub mod NearBack
 pub mod FarAway
 -- FarLines: front lines whose reach lies apart from an area.
 pub mod FarLines
+-- Tolerated: how far tolerated points are from their places. CoversAt: numbers that cover rules up to a class.
+pub mod Tolerated
+pub mod CoversAt

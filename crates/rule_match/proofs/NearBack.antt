@@ -31,7 +31,9 @@ use Rattle.state_law.proofs.NearLaw.{near_candidate}
 use Rattle.free_zone.specs.Zone.{zone_from}
 use Rattle.rule_match.specs.Candidate.{Attempt, IsCandidate, nth, mapped, locals, made, made_from, zone, elements, mapped_pair, IsFrontPoint, IsFrontPair, IsMappedLine, local4, AreTolerated, IsLineTolerated}
 use Rattle.rule_match.specs.Least.{IsOf, HasNone}
-use Rattle.rule_match.specs.Near.{IsAlikeNear, IsCovered, IsCoveredBy, IsStayingLine, reach_lo, reach_hi}
+use Rattle.rule_match.specs.Near.{IsAlikeNear, IsCovered, IsCoveredAt, IsCoveredBy, IsStayingLine, reach_lo, reach_hi}
+use Rattle.rule_maps.specs.Inert.{IsLive}
+use Rattle.state_law.specs.Reach.{IsWithinReach}
 use Rattle.rule_match.specs.Refused.{places_of, IsAllowed}
 use Rattle.rule_match.proofs.Places.{allowed, by_places}
 use Rattle.rule_match.proofs.WithinReach.{within_reach}
@@ -253,21 +255,40 @@ allowed_back st later t e a = record {
 }
 
 -- ---- the law
-pub near_back : (n : ℕ) (st later : State) (more : List Point) (t : Attempt) → IsCovered n t → IsAlikeNear (reach_lo n t.frame) (reach_hi n t.frame) st later more → IsCandidate later t → IsCandidate st t
-near_back n st later more t k h c =
+-- a later candidate whose places lie in the reach by n was one before
+back_by : (n : ℕ) (st later : State) (more : List Point) (t : Attempt) → IsRule t.text → IsWithinReach (reach_lo n t.frame) (reach_hi n t.frame) (places_of later t)
+    → IsAlikeNear (reach_lo n t.frame) (reach_hi n t.frame) st later more → IsCandidate later t → IsCandidate st t
+back_by n st later more t rule within h c =
     let front = front_edges st.points st.front in
     let placed = near_candidate (λ a. Unit {0}) (reach_lo n t.frame) (reach_hi n t.frame) st.points more front (front_edges later.points later.front) (places_of later t)
-    h.front h.later_front h.alike (within_reach n later t k.class k.frame k.rule k.covers c)
+    h.front h.later_front h.alike within
     (subst (λ (ps : List Point). refusal.IsCandidate (λ a. Unit {0}) ps (front_edges later.points later.front) (places_of later t)) h.points (by_places later t c)) in
     let listed_later : AllByRecursion (IsListed (length later.points)) t.points = all_map (IsFrontPoint later) (IsListed (length later.points)) (λ m f. front_listed later m h.later_numbered f) t.points c.on_front in
     let listed : AllByRecursion (IsListed (length st.points)) t.points =
     numbers_from_places (saved.IsFrontPoint front) (IsListed (length st.points)) (IsListed (length later.points)) later.points t.points
     (λ m l f. point_known st.points more later.points st.front m h.points h.later_numbered.different h.numbered.lines_listed l f) listed_later placed.fits.points in
-    let pairs = pairs_listed (length st.points) (length t.text.points) t.points t.text.lines c.counted listed k.rule.lines.1 in
+    let pairs = pairs_listed (length st.points) (length t.text.points) t.points t.text.lines c.counted listed rule.lines.1 in
     let same_mapped = corners_kept st.points more later.points t.points h.points listed in
     let places = same_places st later t same_mapped (pairs_kept st.points more later.points t.points t.text.lines h.points pairs) in
     by_numbers st t (record { numbered = h.numbered; points = listed; lines = pairs }) (allowed_back st later t same_mapped (allowed later t c))
     (subst (refusal.IsCandidate (λ a. Unit {0}) st.points front) places placed)
+
+pub near_back : (n : ℕ) (st later : State) (more : List Point) (t : Attempt) → IsCovered n t → IsAlikeNear (reach_lo n t.frame) (reach_hi n t.frame) st later more → IsCandidate later t → IsCandidate st t
+near_back n st later more t k h c = back_by n st later more t k.rule (within_reach n later t k.class k.frame k.rule k.covers c) h c
+
+-- what covers a rule covers it at each class
+pub covered_at : (class n : ℕ) (r : Rule) → IsCoveredBy n r → IsCoveredAt class n r
+covered_at class n r h = record { rule = h.rule; within = within }
+  where
+    within : (st : State) (t : Attempt) → t.text ≡ r → IsCandidate st t → IsFrame t.frame → 1 ≤ t.class → t.class ≤ class → IsWithinReach (reach_lo n t.frame) (reach_hi n t.frame) (places_of st t)
+    within st t e c frame first last = within_reach n st t first frame (subst IsRule (sym e) h.rule) (subst (λ (x : Rule). Covers x n) (sym e) (h.covers (subst IsLive e c.live))) c
+
+-- a rule of a quality above the class is covered at it by any number
+pub covered_above : (class n : ℕ) (r : Rule) → IsRule r → class < r.quality → IsCoveredAt class n r
+covered_above class n r rule above = record { rule = rule; within = λ st t e c frame first last. absurd (clash class r.quality t.class above last (subst (λ (x : Rule). x.quality ≤ t.class) e c.quality)) }
+  where
+    clash : (class quality tried : ℕ) → class < quality → tried ≤ class → quality ≤ tried → ⊥
+    clash class quality tried a l q = omega arith
 
 -- ---- a line that has none has none later
 rule_at : (P : Rule → Type 0) (rules : List Rule) (k : ℕ) (r : Rule) → AllByRecursion P rules → slice_get rules k ≡ Some r → P r
@@ -281,9 +302,9 @@ same_frame sizes a b f g h k =
     let middle : g.middle ≡ f.middle = λ i. record { x = (k.middle_x ∙ sym h.middle_x) i; y = (k.middle_y ∙ sym h.middle_y) i } in
     one_frame a b (size_at sizes f.middle) f g h (subst (λ (p : Point). IsFrameOf a b (size_at sizes p) g) middle k)
 
-pub none_later : (sizes : SizeField) (rules : List Rule) (n class : ℕ) (st later : State) (more : List Point) (line : Triple) (f : LocalFrame) → 1 ≤ class → AllByRecursion (IsCoveredBy n) rules
+pub none_later_at : (sizes : SizeField) (rules : List Rule) (n last class : ℕ) (st later : State) (more : List Point) (line : Triple) (f : LocalFrame) → 1 ≤ class → class ≤ last → AllByRecursion (IsCoveredAt last n) rules
     → IsStayingLine sizes st later line f → IsAlikeNear (reach_lo n f) (reach_hi n f) st later more → HasNone sizes st rules line.0 class → HasNone sizes later rules line.0 class
-none_later sizes rules n class st later more line f first covered stays h none = record { none = each }
+none_later_at sizes rules n last class st later more line f first not_after covered stays h none = record { none = each }
   where
     ends : IsListed (length st.points) line.1 × IsListed (length st.points) line.2
     ends = ends_listed (length st.points) st.front stays.on_front.0 line h.numbered.lines_listed stays.on_front.1 stays.on_front.2
@@ -296,8 +317,8 @@ none_later sizes rules n class st later more line f first covered stays h none =
         (subst (λ (p : Point). IsFrameOf (point_at later.points line.1) p (size_at sizes t.frame.middle) t.frame) (kept_point st.points more later.points line.2 h.points ends.1)
         (subst (λ (l : Triple). IsFrameOf (point_at later.points l.1) (point_at later.points l.2) (size_at sizes t.frame.middle) t.frame) same o.framed)) in
         let frame : f ≡ t.frame = same_frame sizes (point_at st.points line.1) (point_at st.points line.2) f t.frame stays.framed framed in
-        let by = rule_at (IsCoveredBy n) rules (t.rule - 1) t.text covered o.is_rule in
-        let known : IsCovered n t = record { class = subst (λ (m : ℕ). 1 ≤ m) (sym o.same_class) first; frame = subst IsFrame frame stays.frame; rule = by.rule; covers = by.covers c.live } in
+        let by = rule_at (IsCoveredAt last n) rules (t.rule - 1) t.text covered o.is_rule in
+        let within = by.within later t refl c (subst IsFrame frame stays.frame) (subst (λ (m : ℕ). 1 ≤ m) (sym o.same_class) first) (subst (λ (m : ℕ). m ≤ last) (sym o.same_class) not_after) in
         let near = subst (λ (g : LocalFrame). IsAlikeNear (reach_lo n g) (reach_hi n g) st later more) frame h in
         none.none t (record {
           on_front = subst (Contains st.front) (sym same) stays.on_front;
@@ -306,4 +327,11 @@ none_later sizes rules n class st later more line f first covered stays h none =
           same_class = o.same_class;
           numbered = o.numbered;
           is_rule = o.is_rule;
-        }) (near_back n st later more t known near c)
+        }) (back_by n st later more t by.rule within near c)
+
+pub none_later : (sizes : SizeField) (rules : List Rule) (n class : ℕ) (st later : State) (more : List Point) (line : Triple) (f : LocalFrame) → 1 ≤ class → AllByRecursion (IsCoveredBy n) rules
+    → IsStayingLine sizes st later line f → IsAlikeNear (reach_lo n f) (reach_hi n f) st later more → HasNone sizes st rules line.0 class → HasNone sizes later rules line.0 class
+none_later sizes rules n class st later more line f first covered = none_later_at sizes rules n class class st later more line f first (level class) (all_map (IsCoveredBy n) (IsCoveredAt class n) (covered_at class n) rules covered)
+  where
+    level : (m : ℕ) → m ≤ m
+    level m = omega arith

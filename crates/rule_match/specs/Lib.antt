@@ -22,3 +22,5 @@ pub mod Idle
 pub mod Passed
 -- Near: when a later state is, near a line, as an earlier one was.
 pub mod Near
+-- Leeways: how far mapped points are from their places at most, by the tolerances of a class.
+pub mod Leeways

@@ -4,6 +4,7 @@
 -- IsBox, AreBoxesApart  two corners of a box, the lesser first; one box lies beyond the other
 -- IsAlikeNear          a later state is alike in a box
 -- IsCoveredBy          a rule is one that a reader gives, and n covers it where it is live
+-- IsCoveredAt          a rule is one that a reader gives, and n holds what its candidates up to a class use
 -- IsStayingLine        a front line that the later state has too
 -- IsReachAtMost        how far the reach of a line goes beyond its start
 -- IsFarLine            a front line whose reach lies apart from a box
@@ -18,10 +19,11 @@ use Rattle.rule_maps.specs.Frame.{LocalFrame, IsFrame, IsFrameOf}
 use Rattle.rule_maps.specs.Inert.{IsLive}
 use Rattle.rule_maps.specs.Reach.{Covers}
 use Rattle.size_field.specs.Size.{SizeField, size_at}
-use Rattle.rule_match.specs.Candidate.{Attempt}
+use Rattle.rule_match.specs.Candidate.{Attempt, IsCandidate}
+use Rattle.rule_match.specs.Refused.{places_of}
 use Rattle.state_law.specs.State.{State, point_at, front_edges, IsNumbered}
 use Rattle.state_law.specs.Refusal.{IsFront}
-use Rattle.state_law.specs.Reach.{AreAlikeIn}
+use Rattle.state_law.specs.Reach.{AreAlikeIn, IsWithinReach}
 
 -- how far the box goes beyond the start of the line, for rules that n covers
 abbrev pub widening : ℕ → LocalFrame → ℤ
@@ -58,6 +60,14 @@ pub record IsAlikeNear (lo hi : Point) (st later : State) (more : List Point) : 
 pub record IsCoveredBy (n : ℕ) (r : Rule) : Type 0 where
   pub rule : IsRule r
   pub covers : IsLive r → Covers r n
+
+-- the rule is one that a reader gives; and all places of each of its candidates at a class of at most this one lie in the
+-- reach of their line by n: mapped points, new points, and the corners of the zone and of the elements
+pub record IsCoveredAt (class n : ℕ) (r : Rule) : Type 0 where
+  pub rule : IsRule r
+  pub within : (st : State) (t : Attempt) → t.text ≡ r → IsCandidate st t → IsFrame t.frame
+      → 1 ≤ t.class → t.class ≤ class
+      → IsWithinReach (reach_lo n t.frame) (reach_hi n t.frame) (places_of st t)
 
 -- what the law asks of an attempt: a class of at least 1, a frame, a rule that n covers
 pub record IsCovered (n : ℕ) (t : Attempt) : Type 0 where

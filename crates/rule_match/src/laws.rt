@@ -1,7 +1,8 @@
 //! Laws of candidates, each the contract of a function that does nothing.
 
-ghost use Rattle.std.specs.Prelude.{ℕ, List, [], ◌++◌, ◌≡◌, ◌≤◌, true, length};
+ghost use Rattle.std.specs.Prelude.{ℕ, List, [], ◌++◌, ◌≡◌, ◌<◌, ◌≤◌, true, length};
 ghost use Rattle.rule_reader.specs.declared.rule.Rule.{Rule};
+ghost use Rattle.rule_reader.specs.Normal.{IsRule};
 ghost use Rattle.size_field.specs.Size.{SizeField};
 ghost use Rattle.state_law.specs.State.{State, front_edges};
 ghost use Rattle.state_law.specs.Refusal.{IsFront, HasReason, IsStep, Attempt as PlacedAttempt, DoesFit as IsOnFront};
@@ -15,7 +16,7 @@ ghost use Rattle.rule_match.specs.Least.{HasNone, IsLeast};
 ghost use Rattle.std.specs.List.{AllByRecursion};
 ghost use Rattle.rule_maps.specs.Frame.{LocalFrame};
 ghost use Rattle.state_law.specs.Reach.{AreAlikeIn, IsWithinReach};
-ghost use Rattle.rule_match.specs.Near.{AreBoxesApart, IsAlikeNear, IsBox, IsCovered, IsCoveredBy, IsStayingLine, reach_lo, reach_hi};
+ghost use Rattle.rule_match.specs.Near.{AreBoxesApart, IsAlikeNear, IsBox, IsCovered, IsCoveredAt, IsCoveredBy, IsStayingLine, reach_lo, reach_hi};
 ghost use Rattle.rule_match.specs.Refused.{IsRefusedBy, IsExcused, places_of};
 ghost use Rattle.rule_match.specs.declared.near.NearPoint.{NearPoint as NearOne};
 ghost use Rattle.rule_match.specs.Trying.{Setting, ties};
@@ -36,6 +37,21 @@ pub fn law_near()
         AllByRecursion (IsCoveredBy n) rules → IsStayingLine sizes st later line f →
         IsAlikeNear (reach_lo n f) (reach_hi n f) st later more →
         HasNone sizes st rules line.0 class → HasNone sizes later rules line.0 class }
+{}
+
+/// What a line can use grows with the class, so a line that was refused at low classes alone looks at less of
+/// the plane: where a later state is alike in its reach by a number that covers the rules up to a class,
+/// a line that has none at a class up to this one has none later. What covers a rule covers it at each
+/// class; and up to a class below its quality each number does.
+pub fn law_near_at()
+    ensures none { (sizes : SizeField) (rules : List Rule) (n last class : ℕ) (st later : State)
+        (more : List Point) (line : ℕ × ℕ × ℕ) (f : LocalFrame) → 1 ≤ class → class ≤ last →
+        AllByRecursion (IsCoveredAt last n) rules → IsStayingLine sizes st later line f →
+        IsAlikeNear (reach_lo n f) (reach_hi n f) st later more →
+        HasNone sizes st rules line.0 class → HasNone sizes later rules line.0 class }
+    ensures covered { (class n : ℕ) (r : Rule) → IsCoveredBy n r → IsCoveredAt class n r }
+    ensures above { (class n : ℕ) (r : Rule) → IsRule r → class < r.quality →
+        IsCoveredAt class n r }
 {}
 
 /// Elements that lie in a box leave a front alike in each box apart from it.

@@ -24,6 +24,7 @@ mod fresh;
 mod front_trial;
 pub mod laws;
 mod least;
+mod leeways;
 mod making;
 mod near;
 mod out_of_reach;
@@ -43,7 +44,9 @@ pub use found::Found;
 pub use fresh::search_fresh;
 pub use least::{best, some_may_apply};
 pub use near::NearPoint;
-pub use out_of_reach::{Distance, greatest_reach, is_out_of_reach, reach_beyond};
+pub use out_of_reach::{
+    Distance, greatest_reach, greatest_reach_at, is_out_of_reach, reach_beyond,
+};
 pub use progress::{Note, Progress};
 pub use squares::{MOST_SIDES, element_badness};
 pub use std::alloc::AllocError as OutOfMemory;

@@ -1,15 +1,19 @@
 //! Whether what rules use on a front line lies apart from a part of the plane.
 
-ghost use Rattle.std.specs.Prelude.{ℕ, ◌≡◌, ◌⊎◌, Some, ◌↔◌, pos, ◌+ℤ◌, ◌-ℤ◌, ◌<ℤ◌, ◌≤ℤ◌, IfSome, IsTrue};
+ghost use Rattle.std.specs.Prelude.{ℕ, ◌≡◌, ◌⊎◌, ◌≤◌, Some, ◌↔◌, pos, ◌+ℤ◌, ◌-ℤ◌, ◌<ℤ◌, ◌≤ℤ◌, IfOk, IfSome, IsTrue};
 ghost use Rattle.std.specs.List.{AllByRecursion};
 ghost use Rattle.front_chain.specs.Front.{line_at, state_of};
-ghost use Rattle.rule_match.specs.Near.{widening, IsCoveredBy, IsFarLine, IsReachAtMost};
+ghost use Rattle.rule_maps.specs.Inert.{IsLive};
+ghost use Rattle.rule_match.specs.Near.{widening, IsCoveredAt, IsCoveredBy, IsFarLine, IsReachAtMost};
 
+use super::OutOfMemory;
 use super::base::frame_of;
+use super::leeways::leeways_at;
 use front_chain::Front;
 use grid_geom::Bounds;
-use rule_maps::{Frame, RuleSet};
+use rule_maps::{Compiled, Frame, RuleSet};
 use size_field::Sizes;
+use std::alloc::Global;
 
 /// The greatest reach of the rules: each of them is covered by it.
 pub fn greatest_reach(rules: &RuleSet<'_>) -> u64
@@ -22,6 +26,51 @@ pub fn greatest_reach(rules: &RuleSet<'_>) -> u64
         greatest = compiled.reach().max(greatest);
     }
     greatest
+}
+
+/// The least number that covers a live rule with the leeways of the class.
+fn reach_of_live(alloc: Global, compiled: &Compiled<'_>, class: u32) -> Result<u64, OutOfMemory>
+    requires { IsLive compiled.now }
+    ensures covers { IfOk result (λ n. IsCoveredAt class n compiled.now) }
+    ensures no_greater { IfOk result (λ n. (m : ℕ) → IsCoveredBy m compiled.now → n ≤ m) }
+{
+    let rule = compiled.rule();
+    let leeways = leeways_at(alloc, class, rule.points.as_slice())?;
+    Ok(compiled.reach_by(&leeways))
+}
+
+/// A number that covers the rule up to the class: any where it never applies, or is of a quality above the
+/// class, since it has no candidate then.
+fn reach_at(alloc: Global, compiled: &Compiled<'_>, class: u32) -> Result<u64, OutOfMemory>
+    ensures covers { IfOk result (λ n. IsCoveredAt class n compiled.now) }
+    ensures no_greater { IfOk result (λ n. (m : ℕ) → IsCoveredBy m compiled.now → n ≤ m) }
+{
+    let rule = compiled.rule();
+    if class < rule.quality {
+        return Ok(0);
+    }
+    match compiled.inert() {
+        Some(_) => Ok(0),
+        None => reach_of_live(alloc, compiled, class),
+    }
+}
+
+/// How far the rules reach up to a class: each of them is covered there by the answer, which is no greater than
+/// a number that covers them at all classes. It takes memory for the leeways of one rule.
+pub fn greatest_reach_at(
+    alloc: Global,
+    rules: &RuleSet<'_>,
+    class: u32,
+) -> Result<u64, OutOfMemory>
+    ensures covers { IfOk result (λ n. AllByRecursion (IsCoveredAt class n) rules.now) }
+    ensures no_greater { IfOk result (λ n. (m : ℕ) →
+        AllByRecursion (IsCoveredBy m) rules.now → n ≤ m) }
+{
+    let mut greatest = 0;
+    for k in 0..rules.count() {
+        greatest = reach_at(alloc, rules.get(k + 1), class)?.max(greatest);
+    }
+    Ok(greatest)
 }
 
 /// How far a line's reach goes beyond its start, in grid steps.
