@@ -1,21 +1,19 @@
 -- The elements of an attempt by numbers, with new points listed after the front's own, may follow one another exactly where the elements by places may be glued.
-use Prim.Native.Nat.{ℕ, zero, suc, ◌+◌, ◌-◌, ◌<◌, ◌≤◌}
-use lib.IntN.{ℤ, pos}
+use Prim.Native.Nat.{ℕ, zero, suc, ◌+◌, ◌-◌, ◌<◌}
+use lib.IntN.{pos}
 use native.Mathlib.Omega.{arith}
 use mathlib.Core.Path.{◌≡◌, refl, sym, subst, ap, ◌∙◌}
 use mathlib.Core.Bool.{true≢false}
 use mathlib.Core.List.{List, [], ◌∷◌, ◌++◌}
-use mathlib.Core.Logic.{◌⊎◌, inl, inr}
 use Rattle.std.specs.Prelude.{Bool, true, false, not, ◌&&◌, ◌||◌, ◌↔◌, is_none, Option, None, Some, slice_index_or, length, map}
-use Rattle.std.specs.List.{All, AllByRecursion, IsDistinct, list_any, list_all}
+use Rattle.std.specs.List.{AllByRecursion, IsDistinct, list_any}
 use Rattle.std.proofs.lemmas.List.{get_or-map, length-map, length-append, append_assoc, map-append, append-nil}
-use Rattle.std.proofs.lemmas.List.Elements.{All-from_recursion, recursion_from_All}
 use Rattle.grid_geom.specs.declared.Point.{Point}
 use Rattle.grid_geom.specs.declared.Edge.{Edge}
 use Rattle.grid_geom.specs.Closed.{same_point}
 use Rattle.rule_reader.specs.Normal.{Names}
 use Rattle.state_law.specs.State.{State, point_at, pair_edge, front_edges, corners_of, glued, IsListed, IsNumbered}
-use Rattle.state_law.specs.Gluing.{MayBeGlued, glue, MayAllBeGlued}
+use Rattle.state_law.specs.Gluing.{MayAllBeGlued}
 use Rattle.state_law.proofs.Numbers.{glued_edges, glued_numbered}
 use Rattle.front_chain.specs.Front.{FrontState, IsFrontState, number_of}
 use Rattle.front_chain.proofs.Places.{unlisted, absent_place, distinct_push}

@@ -1,14 +1,13 @@
 -- What a whole assignment is judged by: its places, its zone, its new points, its elements.
-use Prim.Native.Nat.{ℕ, zero, suc, ◌+◌, ◌-◌, ◌<◌, ◌≤◌}
-use lib.IntN.{ℤ, pos}
+use Prim.Native.Nat.{ℕ, zero, suc, ◌+◌, ◌<◌}
 use native.Mathlib.Omega.{arith}
 use mathlib.Core.Path.{◌≡◌, refl, sym, subst, ap, ◌∙◌}
 use mathlib.Core.Bool.{true≢false}
 use mathlib.Core.List.{List, [], ◌∷◌, ◌++◌}
 use mathlib.Core.Logic.{◌⊎◌, inl, inr}
-use Rattle.std.specs.Prelude.{Bool, true, false, not, ◌&&◌, ◌↔◌, IsTrue, is_none, is_some, nat_eq, Option, None, Some, slice_index_or, length, map}
-use Rattle.std.specs.List.{All, AllByRecursion, Any, Contains, IsDistinct, list_any, list_all}
-use Rattle.std.proofs.lemmas.List.{get_or-map, length-map}
+use Rattle.std.specs.Prelude.{Bool, true, false, not, ◌&&◌, ◌↔◌, IsTrue, is_none, is_some, Option, None, Some, slice_index_or, length, map}
+use Rattle.std.specs.List.{All, AllByRecursion, Contains, IsDistinct, list_any, list_all}
+use Rattle.std.proofs.lemmas.List.{length-map}
 use Rattle.std.proofs.lemmas.List.Elements.{All-from_recursion, recursion_from_All, All-contains}
 use Rattle.grid_geom.specs.declared.Point.{Point}
 use Rattle.grid_geom.specs.Bounds.{IsOnGrid}
@@ -16,15 +15,14 @@ use Rattle.grid_geom.specs.Closed.{same_point}
 use Rattle.rule_maps.specs.Frame.{LocalFrame, IsInRange}
 use Rattle.rule_reader.specs.declared.rule.Rule.{Rule}
 use Rattle.rule_maps.specs.Places.{mapping}
-use Rattle.state_law.specs.State.{State, point_at, corners_of, front_edges, IsListed}
-use Rattle.front_chain.specs.Front.{FrontState, state_of, line_at, number_of}
+use Rattle.state_law.specs.State.{point_at, corners_of, front_edges, IsListed}
+use Rattle.front_chain.specs.Front.{FrontState, state_of, number_of}
 use Rattle.free_zone.specs.declared.blocked.Blocker.{Blocker}
 use Rattle.free_zone.specs.declared.blocked.Blocker.TheVariants.{Point as AtPoint, Line as AtLine}
 use Rattle.free_zone.specs.Zone.{IsZone, zone_of}
 use Rattle.free_zone.specs.InTheWay as way
 use Rattle.free_zone.specs.InTheWay.{HasNoPoint, HasNoLine, IsAnswer, IsFreeLine}
-use Rattle.rule_match.specs.declared.near.NearPoint.{NearPoint}
-use Rattle.rule_match.specs.Candidate.{Attempt, mapped, elements, IsFrontPoint, IsCandidate}
+use Rattle.rule_match.specs.Candidate.{mapped, elements, IsFrontPoint, IsCandidate}
 use Rattle.rule_match.specs.Candidate.{made as made_at}
 use Rattle.rule_match.specs.Candidate.{made_of}
 use Rattle.rule_match.specs.Applied.{are_new, do_differ}
@@ -47,7 +45,6 @@ use Rattle.std.specs.declared.result.Result.TheVariants.{Ok, Err}
 use Rattle.std.specs.Prelude.{IfOk, ◌||◌}
 use Rattle.rule_match.specs.Trying.{near_at, ties}
 use Rattle.rule_match.specs.Base.{BaseLine, Tried, IsTrying, HasFreeZone, HasNewPoints, elements_by, numbers_at, attempt_of, setting_at}
-use Rattle.rule_match.proofs.Gathered.{line_pair}
 use Rattle.rule_match.proofs.BaseLines.{line_there}
 use Rattle.rule_match.proofs.Standing.{place_of, all_within, all_in_range, all_on_front, all_different, at_start, at_end, at_lines, points_tolerated, lines_tolerated, turned}
 

@@ -1,6 +1,6 @@
 -- The law Near, by numbers: near a line a later state is as an earlier one, so what is a candidate on it later was one before.
 -- By places this is state_law's law; here a candidate by places is one by numbers again, since different numbers have different places.
-use Rattle.std.proofs.Common.{◌≡◌, ℕ, zero, suc, ◌+◌, ◌-◌, ◌<◌, ◌≤◌, ◌⊎◌, inl, inr, Bool, true, List, [], ◌∷◌, ◌++◌, length, map, slice_index_or, refl, sym, ap, ◌∙◌, subst, arith, length-append, nat_eq, pos, ◌<ℤ◌, slice_get, Some}
+use Rattle.std.proofs.Common.{◌≡◌, ℕ, zero, suc, ◌-◌, ◌<◌, ◌≤◌, ◌⊎◌, inl, inr, true, List, [], ◌∷◌, ◌++◌, length, map, slice_index_or, refl, sym, ap, ◌∙◌, subst, arith, length-append, nat_eq, pos, ◌<ℤ◌, slice_get, Some}
 use Rattle.std.specs.List.{AllByRecursion, Any, Contains, IsDistinct}
 use Rattle.std.proofs.lemmas.List.{get_or_append_left}
 use Rattle.std.proofs.lemmas.List.Elements.{All-from_recursion, All-get_or}
@@ -29,7 +29,7 @@ use Rattle.state_law.proofs.Lists.{all_map}
 use Rattle.state_law.proofs.Numbers.{same_number}
 use Rattle.state_law.proofs.NearLaw.{near_candidate}
 use Rattle.free_zone.specs.Zone.{zone_from}
-use Rattle.rule_match.specs.Candidate.{Attempt, IsCandidate, nth, mapped, locals, made, made_from, zone, elements, mapped_pair, IsFrontPoint, IsFrontPair, IsMappedLine, local4, AreTolerated, IsLineTolerated}
+use Rattle.rule_match.specs.Candidate.{Attempt, IsCandidate, nth, mapped, made, made_from, zone, mapped_pair, IsFrontPoint, IsFrontPair, IsMappedLine, local4, AreTolerated, IsLineTolerated}
 use Rattle.rule_match.specs.Least.{IsOf, HasNone}
 use Rattle.rule_match.specs.Near.{IsAlikeNear, IsCovered, IsCoveredAt, IsCoveredBy, IsStayingLine, reach_lo, reach_hi}
 use Rattle.rule_maps.specs.Inert.{IsLive}

@@ -24,7 +24,7 @@ use Rattle.rule_match.specs.declared.near.NearPoint.{NearPoint}
 use Rattle.rule_match.specs.Candidate.{Attempt, nth, made}
 use Rattle.rule_match.specs.Applied.{numbers_from, are_new, do_differ}
 use Rattle.rule_match.specs.Trying.{Setting, near_at}
-use Rattle.rule_match.specs.Around.{IsSurrounding, setting_of}
+use Rattle.rule_match.specs.Around.{IsSurrounding}
 
 pub record BaseLine : Type 0 where
   pub front : FrontState

@@ -1,5 +1,4 @@
-use Rattle.std.proofs.Common.{◌≡◌, ◌∙◌, sym, subst, ℕ, refl, Some}
-use Rattle.front_chain.specs.Front.{line_at}
+use Rattle.std.proofs.Common.{◌∙◌, sym, refl}
 use Rattle.rule_match.proofs.Gathered.{line_pair}
 use Rattle.rule_match.proofs.BaseLines.{line_there}
 use Rattle.rule_match.proofs.base.Base.new.Goals as goal

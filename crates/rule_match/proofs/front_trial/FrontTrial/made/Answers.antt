@@ -1,6 +1,5 @@
-use Rattle.std.proofs.Common.{◌≡◌, ◌∙◌, sym, ap, List}
+use Rattle.std.proofs.Common.{◌∙◌, sym, ap}
 use mathlib.Core.Bool.{true≢false}
-use Rattle.grid_geom.specs.declared.Point.{Point}
 use Rattle.front_chain.specs.Front.{FrontState}
 use Rattle.rule_match.specs.Applied.{are_new}
 use Rattle.rule_match.proofs.Judged.{made_told, candidate_new, candidate_differ}

@@ -1,11 +1,11 @@
-use Rattle.std.proofs.Common.{◌≡◌, ◌∙◌, sym, subst, ap, ℕ, List}
-use mathlib.Core.Bool.{Bool, true, false, true≢false}
+use Rattle.std.proofs.Common.{◌≡◌, ◌∙◌, sym, ap}
+use mathlib.Core.Bool.{true, false, true≢false}
 use Rattle.std.specs.Prelude.{◌↔◌, IsTrue}
 use Rattle.state_law.specs.State.{front_edges}
 use Rattle.state_law.specs.Gluing.{MayAllBeGlued}
 use Rattle.front_chain.specs.Front.{state_of}
 use Rattle.rule_match.specs.Candidate.{elements, IsCandidate}
-use Rattle.rule_match.specs.Base.{BaseLine, HasNewPoints, numbers_at, attempt_of}
+use Rattle.rule_match.specs.Base.{BaseLine, numbers_at, attempt_of}
 use Rattle.rule_match.proofs.Judged.{candidate_free, candidate_of, if_ok}
 use Rattle.rule_match.proofs.front_trial.FrontTrialTrial.judge.Goals as goal
 
