@@ -118,8 +118,9 @@ fn without_rules_nothing_is_found(rt: HostRuntime) -> Result<(), Fail> {
     Ok(())
 }
 
-/// By hand: at class 1 a tolerance lets a point be 0.894.. away, so corner 2, (1, 0) with `1 X2`, is at most 1.9 away, and 3 is
-/// the least that is told; at class 16 it is 2.302.. away, and the corner 3.4. In range it is at most 14 away, and the corner 15.
+/// By hand: at class 1 a tolerance lets a point be 0.894.. away, so corner 2, (1, 0) with `1 X2`, is at most
+/// 1.9 away, and 3 is the least that is told; at class 16 it lets it be 2.302.. away, and the corner 3.4. A point
+/// in range is at most 14 away, and the corner 15.
 #[test]
 fn the_reach_grows_with_the_class(rt: HostRuntime) -> Result<(), Fail> {
     let rules = read(rt.alloc(), RULES)?;
