@@ -1,8 +1,8 @@
-use Rattle.std.proofs.Common.{◌≡◌, ◌⊎◌, ℕ, ◌+◌, ◌<◌, Bool, true, List, length, slice_index_or, All, sym, ◌∙◌, ap, subst}
+use Rattle.std.proofs.Common.{◌≡◌, ◌⊎◌, ℕ, ◌+◌, ◌<◌, Bool, true, List, length, slice_index_or, sym, ◌∙◌, ap, subst}
 use Rattle.std.specs.List.{Contains}
 use Rattle.vol_format.specs.declared.MeshElement.{MeshElement}
 use Rattle.mesh_check.proofs.Noted.{name_more, named_all}
-use Rattle.mesh_check.proofs.tight.are_named.Goals as goal
+use Rattle.mesh_check.proofs.tight.named_points.Goals as goal
 
 pub loop-element-preserved : goal.loop-element-preserved
 loop-element-preserved c = (
@@ -12,7 +12,5 @@ loop-element-preserved c = (
       (c.as_slice.ensures ∙ ap (λ (e : MeshElement). e.corners) c.element-item.is) c.note.ensures.noted) c.loop-element.invariant.1,
 )
 
-pub returns : goal.returns
-returns c = λ t i l.
-    let long : i < length c.loop-element.noted.items = subst (λ (n : ℕ). i < n) (sym c.loop-element.invariant.0) l in
-    named_all c.loop-element.noted.items c.args.elements.now c.loop-element.element-index c.loop-element.invariant.1 i long (subst (All (λ (b : Bool). b ≡ true)) c.deref.ensures.value (c.are_all.ensures t) i true long)
+pub returns-clause-named : goal.returns-clause-named
+returns-clause-named c = λ i l t. named_all c.loop-element.noted.items c.args.elements.now c.loop-element.element-index c.loop-element.invariant.1 i (subst (λ (n : ℕ). i < n) (sym c.loop-element.invariant.0) l) t
