@@ -1,10 +1,7 @@
 -- The search over the rules: each candidate of a line stands as an assignment that its rule's search passes, and what is found over all rules is the least.
-use Rattle.std.proofs.Common.{◌≡◌, ℕ, zero, suc, ◌+◌, ◌-◌, ◌<◌, ◌≤◌, true, false, List, [], ◌∷◌, map, length, slice_index_or, Option, None, Some, refl, sym, ap, ◌∙◌, subst, arith, inl, inr, ◌⊎◌}
-use Rattle.std.specs.Prelude.{slice_get, IfSome}
-use Rattle.std.specs.List.{AllZip, Contains}
-use Rattle.std.specs.Ordering.{is_gt}
-use Rattle.std.proofs.lemmas.Bool.{cases_order}
-use Rattle.std.proofs.lemmas.List.Elements.{length_all_zip}
+use Rattle.std.proofs.Common.{◌≡◌, ℕ, suc, ◌+◌, ◌-◌, ◌<◌, ◌≤◌, true, List, [], ◌∷◌, length, slice_index_or, Option, None, Some, refl, sym, ap, ◌∙◌, subst, arith, inl, inr, ◌⊎◌}
+use Rattle.std.specs.Prelude.{slice_get}
+use Rattle.std.specs.List.{Contains}
 use Rattle.std.proofs.lemmas.Option.{slice_get_within, slice_get-get_or}
 use Rattle.grid_geom.specs.declared.Point.{Point}
 use Rattle.rule_reader.specs.declared.rule.Rule.{Rule}
@@ -26,12 +23,12 @@ use Rattle.rule_match.specs.Order.{IsNoWorse}
 use Rattle.rule_match.specs.Candidate.{Attempt, IsCandidate}
 use Rattle.rule_match.specs.Least.{IsOf, IsLeast, HasNone, rank}
 use Rattle.rule_match.specs.Fitting.{fits_so_far}
-use Rattle.rule_match.specs.Trying.{near_at, ties}
-use Rattle.rule_match.specs.Around.{IsTried, StandFor, setting_of}
-use Rattle.rule_match.specs.Base.{BaseLine, IsBaseLine, IsBaseOf, IsFramed, Tried, attempt_of, numbers_at, setting_at}
+use Rattle.rule_match.specs.Trying.{ties}
+use Rattle.rule_match.specs.Around.{StandFor}
+use Rattle.rule_match.specs.Base.{BaseLine, IsBaseLine, IsBaseOf, Tried, attempt_of, numbers_at, setting_at}
 use Rattle.rule_match.specs.Idle.{NoneApplies, SomeMayApply}
 use Rattle.rule_match.specs.Passed.{IsPassed, IsOn, IsFind, IsFindIfAny, IsLeastSoFar, NoneMayApply, Holds, rank_of, state_at}
-use Rattle.rule_match.proofs.Advances.{no_worse_same, no_worse_chain}
+use Rattle.rule_match.proofs.Advances.{no_worse_chain}
 use Rattle.rule_match.proofs.Gathered.{line_numbered}
 use Rattle.rule_match.proofs.Tried.{tried}
 

@@ -1,13 +1,12 @@
 -- An assignment of near points that meets each test stands for an attempt that meets the sentences of a candidate on points, lines and turns.
-use Prim.Native.Nat.{ℕ, zero, suc, ◌+◌, ◌-◌, ◌<◌, ◌≤◌}
+use Prim.Native.Nat.{ℕ, zero, suc, ◌+◌, ◌-◌, ◌<◌}
 use lib.IntN.{ℤ, pos, ◌-ℤ◌}
-use lib.Signed.{◌<ℤ◌, le_z, lt_z}
+use lib.Signed.{◌<ℤ◌}
 use native.Mathlib.Omega.{arith}
 use mathlib.Core.Path.{◌≡◌, refl, sym, subst, ap, ◌∙◌}
 use mathlib.Core.Bool.{true≢false}
 use mathlib.Core.List.{List, [], ◌∷◌, ◌++◌}
-use mathlib.Core.Logic.{inl, inr}
-use Rattle.std.specs.Prelude.{Bool, true, false, not, ◌&&◌, ◌||◌, nat_eq, nat_lt, Option, None, Some, slice_get, slice_index_or, length, map}
+use Rattle.std.specs.Prelude.{Bool, true, false, not, ◌&&◌, ◌||◌, nat_eq, nat_lt, Option, Some, slice_get, slice_index_or, length, map}
 use Rattle.std.specs.Option.{option_map_or}
 use Rattle.std.specs.List.{AllByRecursion, IsDistinct, list_any, list_all}
 use Rattle.std.proofs.lemmas.Bool.{eqb-true, ltb-true}
@@ -17,16 +16,16 @@ use Rattle.grid_geom.specs.Plane.{orient}
 use Rattle.grid_geom.proofs.Booleans.{le_true, lt_true}
 use Rattle.rule_reader.specs.declared.rule.MapPoint.{MapPoint}
 use Rattle.rule_reader.specs.declared.rule.MapLine.{MapLine}
-use Rattle.rule_reader.specs.Normal.{IsRule, Names, IsMapLine, BeginsAtBase}
+use Rattle.rule_reader.specs.Normal.{Names, IsMapLine, BeginsAtBase}
 use Rattle.rule_maps.specs.Frame.{IsInRange}
 use Rattle.state_law.specs.State.{State, point_at, corners_of}
 use Rattle.front_chain.specs.Front.{state_of}
 use Rattle.rule_match.specs.declared.near.NearPoint.{NearPoint}
-use Rattle.rule_match.specs.Candidate.{Attempt, mapped, local4, locals, nth, mapped_pair, IsTolerated, AreTolerated, IsLineTolerated, IsFrontPoint, IsFrontPair, rule_place}
+use Rattle.rule_match.specs.Candidate.{local4, nth, mapped_pair, IsTolerated, AreTolerated, IsLineTolerated, IsFrontPoint, IsFrontPair, rule_place}
 use Rattle.rule_match.specs.Fitting.{both_known, known, is_met, are_different, fits_so_far}
-use Rattle.rule_match.specs.Trying.{Setting, near_at, does_go, is_tolerated, is_end_right, point_test, point_tie, point_ties, line_test, line_tie, turn_test, turn_tie, other_ties, ties}
-use Rattle.rule_match.specs.Around.{IsAround, IsPointOf, IsSurrounding}
-use Rattle.rule_match.specs.Base.{BaseLine, IsBaseLine, Tried, IsTrying, numbers_at, attempt_of, setting_at}
+use Rattle.rule_match.specs.Trying.{Setting, near_at, does_go, is_end_right, point_test, point_tie, point_ties, line_test, line_tie, turn_test, turn_tie, other_ties, ties}
+use Rattle.rule_match.specs.Around.{IsAround}
+use Rattle.rule_match.specs.Base.{Tried, IsTrying, numbers_at, setting_at}
 use Rattle.rule_match.proofs.Prefixes.{both}
 use Rattle.rule_match.proofs.NextPoint.{points_of}
 
@@ -137,7 +136,7 @@ module _ (t : Tried) where
         )
 
     -- ---- the rule's numbers
-    two_points : (1 < length t.rule.points)
+    pub two_points : (1 < length t.rule.points)
     two_points = by t.rule.lines i.rule.base i.rule.lines.1
       where
         by : (ls : List MapLine) → BeginsAtBase ls → AllByRecursion (IsMapLine (length t.rule.points)) ls → 1 < length t.rule.points

@@ -163,7 +163,7 @@ pub fn best<L: Ledger>(
     if !some_may_apply(rules, class) {
         return Ok(None);
     }
-    let base = Base::new(alloc, front, sizes, line, class)?;
+    let base = Base::new(alloc, front, sizes, line, class, false)?;
     match least_found(alloc, &base, rules)? {
         None => Ok(None),
         Some(found) => Ok(Some(application_of(alloc, &base, rules, &found)?)),

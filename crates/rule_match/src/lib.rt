@@ -10,8 +10,9 @@
 //! 5. `best` tries each live rule of quality at most the class on one line. The line's frame, the front
 //!    points in range and the front lines between them are gathered once, from the lines whose boxes
 //!    meet the range, and are shared by all rules.
-//! 6. The law on refusals (`laws::law_none`) is over notes of front lines, which `best` doesn't make:
-//!    where it finds nothing, no attempt is a candidate.
+//! 6. A search may note why assignments fail: front lines, each beside a mapped point. An assignment
+//!    that no front line hinders fails by its places alone, or by what no application undoes. `best`
+//!    makes no notes.
 
 mod application;
 mod around;
@@ -27,6 +28,7 @@ mod least;
 mod leeways;
 mod making;
 mod near;
+mod noting;
 mod out_of_reach;
 mod progress;
 mod rule_search;

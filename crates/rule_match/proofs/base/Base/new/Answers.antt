@@ -1,5 +1,4 @@
-use Rattle.std.proofs.Common.{◌≡◌, ◌∙◌, sym, subst, ℕ, refl, Some}
-use Rattle.front_chain.specs.Front.{line_at}
+use Rattle.std.proofs.Common.{◌∙◌, sym, refl}
 use Rattle.rule_match.proofs.Gathered.{line_pair}
 use Rattle.rule_match.proofs.BaseLines.{line_there}
 use Rattle.rule_match.proofs.base.Base.new.Goals as goal
@@ -17,8 +16,8 @@ invariant_of-result c = record {
   class_greatest = c.requires.class_greatest;
 }
 
-pub returns : goal.returns
-returns c = record {
+pub returns-clause-base : goal.returns-clause-base
+returns-clause-base c = record {
   base = record {
     front = c.points-points.ensures.holds;
     on_front = line_there c.args.front.now.lines c.args.line c.unwrap-from.result (sym c.line.ensures ∙ c.unwrap-from.ensures);
