@@ -1,15 +1,13 @@
 -- A front line's frame, and its near points.
 use Prim.Native.Nat.{ℕ, ◌<◌}
-use lib.IntN.{ℤ, pos}
-use native.Mathlib.Omega.{arith}
-use mathlib.Core.Path.{◌≡◌, refl, sym, ap, ◌∙◌, subst}
-use mathlib.Core.List.{List, [], ◌∷◌}
-use Rattle.std.specs.Prelude.{length, map, slice_index_or, Some}
-use Rattle.std.specs.List.{All, AllByRecursion, Any, Contains}
+use lib.IntN.{ℤ}
+use mathlib.Core.Path.{◌≡◌, sym, ap, ◌∙◌, subst}
+use mathlib.Core.List.{List}
+use Rattle.std.specs.Prelude.{length, Some}
+use Rattle.std.specs.List.{All, Contains}
 use Rattle.std.proofs.lemmas.List.{get_or-map, length-map}
 use Rattle.std.proofs.lemmas.List.Elements.{All-from_recursion, All-from_get_or, recursion_from_All, All-contains_itself}
 use Rattle.grid_geom.specs.declared.Point.{Point}
-use Rattle.grid_geom.specs.declared.Edge.{Edge}
 use Rattle.grid_geom.specs.Bounds.{IsOnGrid}
 use Rattle.grid_geom.specs.Closed.{IsEdge}
 use Rattle.rule_maps.specs.Frame.{LocalFrame, IsFrameOf}
@@ -19,7 +17,7 @@ use Rattle.front_chain.specs.Front.{FrontState, IsFrontState, state_of, line_at}
 use Rattle.free_zone.proofs.AtNumbers.{at_number}
 use Rattle.rule_match.specs.declared.near.NearPoint.{NearPoint}
 use Rattle.rule_match.specs.Candidate.{IsFrontPair}
-use Rattle.rule_match.specs.Trying.{near_at, nowhere}
+use Rattle.rule_match.specs.Trying.{nowhere}
 use Rattle.rule_match.specs.Around.{IsSurrounding}
 use Rattle.rule_match.specs.Base.{IsFramed}
 use Rattle.rule_match.proofs.Surroundings.{any_fact}

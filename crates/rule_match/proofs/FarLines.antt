@@ -1,7 +1,7 @@
 -- A front line whose reach lies beside an area, above or below it.
 use Rattle.std.proofs.Common.{◌≡◌, ℕ, ◌+◌, ◌*◌, ◌<◌, ◌≤◌, ◌⊎◌, inl, inr, List, [], ◌∷◌, ◌++◌, length, map, take, slice_index_or, subst, sym, ap, ◌∙◌, refl, arith, ℤ, pos, ◌+ℤ◌, ◌-ℤ◌, ◌<ℤ◌, ◌≤ℤ◌, Some}
 use Rattle.std.proofs.lemmas.Int.{ints}
-use Rattle.std.specs.List.{AllByRecursion, Contains}
+use Rattle.std.specs.List.{AllByRecursion}
 use Rattle.std.proofs.lemmas.List.{take_more}
 use Rattle.rule_reader.specs.declared.rule.Rule.{Rule}
 use Rattle.rule_reader.specs.declared.rule.Place.{Place}
@@ -14,7 +14,7 @@ use Rattle.size_field.specs.Size.{SizeField}
 use Rattle.rule_maps.specs.Frame.{LocalFrame, IsFrame}
 use Rattle.front_chain.specs.Front.{FrontState, state_of, line_at}
 use Rattle.rule_match.specs.Base.{IsFramed}
-use Rattle.rule_match.specs.Near.{widening, reach_lo, reach_hi, AreBoxesApart, IsBox, IsCoveredBy, IsFarLine, IsReachAtMost}
+use Rattle.rule_match.specs.Near.{widening, reach_lo, reach_hi, AreBoxesApart, IsCoveredBy, IsFarLine, IsReachAtMost}
 use Rattle.rule_match.proofs.BaseLines.{line_there}
 
 -- a line with its frame, and how far its reach goes

@@ -1,12 +1,11 @@
 -- The application that a find gives: its rule, its points and what the rule makes of them are those of the candidate that it is.
-use Rattle.std.proofs.Common.{◌≡◌, ℕ, ◌+◌, ◌-◌, ◌<◌, ◌≤◌, List, [], ◌∷◌, ◌++◌, map, length, slice_index_or, Option, None, Some, refl, sym, ap, ◌∙◌, subst, arith, inl, inr, ◌⊎◌}
-use Rattle.std.specs.Prelude.{IfNone, slice_get}
+use Rattle.std.proofs.Common.{◌≡◌, ℕ, ◌-◌, ◌≤◌, List, ◌++◌, map, length, slice_index_or, Option, None, Some, refl, sym, ap, ◌∙◌, subst, arith, inl, inr, ◌⊎◌}
+use Rattle.std.specs.Prelude.{IfNone}
 use Rattle.std.specs.List.{All, AllByRecursion}
 use Rattle.std.specs.Option.{IsSome}
 use Rattle.std.proofs.lemmas.List.{length-map}
 use Rattle.std.proofs.lemmas.List.Elements.{All-from_recursion}
 use Rattle.std.proofs.lemmas.Option.{get_or_from_slice_get}
-use Rattle.grid_geom.specs.declared.Point.{Point}
 use Rattle.grid_geom.specs.Bounds.{IsOnGrid}
 use Rattle.rule_reader.specs.declared.rule.Rule.{Rule}
 use Rattle.rule_reader.specs.Normal.{IsRule}
@@ -14,15 +13,15 @@ use Rattle.rule_maps.specs.Frame.{LocalFrame, IsInRange}
 use Rattle.rule_maps.specs.Places.{Mapping, mapping}
 use Rattle.state_law.specs.State.{State, IsListed, corners_of}
 use Rattle.state_law.proofs.Lists.{all_map}
-use Rattle.front_chain.specs.Front.{FrontState, IsFrontState}
+use Rattle.front_chain.specs.Front.{IsFrontState}
 use Rattle.rule_match.specs.declared.application.Application.{Application}
 use Rattle.rule_match.specs.declared.found.Found.{Found}
 use Rattle.rule_match.specs.Candidate.{Attempt, IsCandidate, IsFrontPoint, made, made_of, nth}
 use Rattle.rule_match.specs.Candidate as candidate
 use Rattle.rule_match.specs.Applied.{application, numbers_from}
 use Rattle.rule_match.specs.Least.{rank}
-use Rattle.rule_match.specs.Base.{BaseLine, IsBaseLine}
-use Rattle.rule_match.specs.Passed.{IsOn, IsFind, state_at}
+use Rattle.rule_match.specs.Base.{BaseLine}
+use Rattle.rule_match.specs.Passed.{IsOn, state_at}
 use Rattle.rule_match.proofs.Surroundings.{any_fact}
 
 -- front points are listed

@@ -85,7 +85,7 @@ kept_before (l ∷ ls) more a b h = by (does_go a b l) h (kept_before ls more a 
     by true h rest = refl
     by false h rest = rest h
 
-same_ends : (x y : ℕ × ℕ) → Some x ≡ Some y → x ≡ y
+pub same_ends : (x y : ℕ × ℕ) → Some x ≡ Some y → x ≡ y
 same_ends x y e = cc
 
 -- it begins in range, and is gathered

@@ -41,6 +41,8 @@ pub mod NearBack
 pub mod FarAway
 -- FarLines: front lines whose reach lies apart from an area.
 pub mod FarLines
+-- ReachBoxes: the box of a line's reach, cut off at the grid.
+pub mod ReachBoxes
 -- Tolerated: how far tolerated points are from their places. CoversAt: numbers that cover rules up to a class.
 pub mod Tolerated
 pub mod CoversAt

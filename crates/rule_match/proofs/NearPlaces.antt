@@ -1,9 +1,9 @@
 -- The box of all points in range, and the local places of near points, as the code computes them.
-use Prim.Native.Nat.{ℕ, ◌≤◌, ◌<◌}
+use Prim.Native.Nat.{ℕ, ◌≤◌}
 use lib.IntN.{ℤ, pos, ◌+ℤ◌, ◌-ℤ◌, ◌*ℤ◌}
-use lib.Signed.{◌<ℤ◌, ◌≤ℤ◌}
+use lib.Signed.{◌≤ℤ◌}
 use native.Mathlib.Omega.{arith}
-use mathlib.Core.Path.{◌≡◌, refl, sym, ap, ◌∙◌, subst}
+use mathlib.Core.Path.{◌≡◌, sym, ap, ◌∙◌, subst}
 use mathlib.Core.Logic.{inl, inr}
 use mathlib.Core.List.{List}
 use mir.Val.{SFits, to_z, of_z}
@@ -11,13 +11,12 @@ use mir.Syntax.{w32, w64, w128}
 use Rattle.std.specs.Int.RustNames.{unsigned_abs}
 use Rattle.std.proofs.lemmas.Int.{ints, to_z-of_z}
 use Rattle.grid_geom.specs.declared.Point.{Point}
-use Rattle.grid_geom.specs.declared.Bounds.{Bounds}
-use Rattle.grid_geom.specs.Bounds.{IsWithin, IsOnGrid}
+use Rattle.grid_geom.specs.Bounds.{IsWithin}
 use Rattle.grid_geom.proofs.Ints.{mul_assoc}
 use Rattle.grid_geom.proofs.Signs.{le_mul, either}
-use Rattle.rule_maps.specs.Fractions.{Fraction, IsFraction, IsNearest, IsWithinOf, nearest}
+use Rattle.rule_maps.specs.Fractions.{Fraction, IsFraction, IsNearest, IsWithinOf}
 use Rattle.rule_maps.specs.Frame.{LocalFrame, IsFrame, IsHeight, IsInRange, in_units, local_x, local_y, local4_x, local4_y}
-use Rattle.rule_maps.proofs.Frames.{cast64, cast128, HasBounds, frame_bounds}
+use Rattle.rule_maps.proofs.Frames.{cast64, cast128, frame_bounds}
 use Rattle.rule_maps.proofs.Ranges.{along_fraction, left_fraction}
 use Rattle.rule_maps.proofs.Rounding.{nearest_near}
 use Rattle.state_law.specs.State.{point_at}

@@ -1,17 +1,14 @@
 -- The new points of an attempt one by one, its elements' badness, and the numbers of its points.
-use Prim.Native.Nat.{ℕ, zero, suc, ◌+◌, ◌-◌, ◌<◌, ◌≤◌}
+use Prim.Native.Nat.{ℕ, zero, suc, ◌+◌, ◌<◌, ◌≤◌}
 use native.Mathlib.Omega.{arith}
 use mathlib.Core.Path.{◌≡◌, refl, sym, ap, ◌∙◌, subst}
-use mathlib.Core.Bool.{Bool, true, false, not, true≢false, ◌&&◌, ◌||◌}
 use mathlib.Core.List.{List, [], ◌∷◌, ◌++◌}
-use mathlib.Core.Logic.{inl, inr}
-use Rattle.std.specs.Prelude.{length, take, map, slice_index_or, ◌↔◌, IsTrue, is_none, Option, Some, None}
-use Rattle.std.specs.List.{All, AllByRecursion, Contains, IsDistinct, list_any}
+use Rattle.std.specs.Prelude.{length, take, map, slice_index_or}
+use Rattle.std.specs.List.{All}
 use lib.IntN.{pos}
 use Rattle.std.proofs.lemmas.List.{take_more, take_all, append_assoc, length-take, length-map, map-append}
 use Rattle.grid_geom.specs.declared.Point.{Point}
 use Rattle.grid_geom.specs.Bounds.{IsOnGrid}
-use Rattle.grid_geom.specs.Closed.{same_point}
 use Rattle.grid_geom.specs.Area.{shoelace}
 use Rattle.grid_geom.specs.Polygon.{sides}
 use Rattle.front_chain.proofs.Openings.{sweep_within}

@@ -1,26 +1,25 @@
 -- The starts of front lines that begin in range, each once, are the front points in range: so the near points with these numbers surround the base line.
-use Prim.Native.Nat.{ℕ, zero, suc, ◌+◌, ◌<◌, ◌≤◌}
+use Prim.Native.Nat.{ℕ, zero, suc, ◌<◌}
 use native.Mathlib.Omega.{arith}
 use mathlib.Core.Path.{◌≡◌, refl, sym, subst, ap, ◌∙◌}
 use mathlib.Core.Bool.{Bool, true, false, true≢false, ◌&&◌, ◌||◌}
 use mathlib.Core.List.{List, [], ◌∷◌}
 use mathlib.Core.Logic.{◌⊎◌, inl, inr}
-use Rattle.std.specs.Prelude.{nat_eq, length, map, slice_index_or, ◌↔◌, pos}
-use Rattle.std.specs.List.{All, AllByRecursion, Any, Contains, list_any, AllPairs}
+use Rattle.std.specs.Prelude.{nat_eq, length, map, slice_index_or, ◌↔◌}
+use Rattle.std.specs.List.{All, AllByRecursion, Any, Contains, list_any}
 use Rattle.std.specs.List.Sorted.{IsStrictlyIncreasing}
 use Rattle.std.proofs.lemmas.Bool.{eqb-true, eq-eqb, cases_lt}
 use Rattle.std.proofs.lemmas.List.{get_or-map, length-map}
-use Rattle.std.proofs.lemmas.List.Elements.{All-from_recursion, All-contains, All-map, All-weaker, All-contains_itself, Contains-get_or}
+use Rattle.std.proofs.lemmas.List.Elements.{All-from_recursion, All-contains, All-map, All-weaker, All-contains_itself}
 use Rattle.std.proofs.lemmas.List.Kept.{AllPairs-from_increasing}
-use Rattle.grid_geom.specs.declared.Point.{Point}
-use Rattle.rule_maps.specs.Frame.{LocalFrame, IsInRange, local4_x, local4_y}
-use Rattle.state_law.specs.State.{State, point_at, IsListed}
+use Rattle.rule_maps.specs.Frame.{LocalFrame, IsInRange}
+use Rattle.state_law.specs.State.{point_at, IsListed}
 use Rattle.front_chain.specs.Front.{FrontState, IsFrontState, state_of, is_end}
 use Rattle.front_chain.proofs.Ends.{end_leaves}
 use Rattle.rule_match.specs.declared.near.NearPoint.{NearPoint}
 use Rattle.rule_match.specs.Candidate.{IsFrontPair, IsFrontPoint}
 use Rattle.rule_match.specs.Trying.{near_at, nowhere, does_go}
-use Rattle.rule_match.specs.Around.{IsAround, IsPointOf, IsSurrounding, near_of, IsStartNear, HasStartsNear}
+use Rattle.rule_match.specs.Around.{IsPointOf, IsSurrounding, near_of, IsStartNear, HasStartsNear}
 
 -- ---- an item that passes
 pub any_fact : {X : Type 0} (P Q : X → Type 0) (xs : List X) → AllByRecursion P xs → Any Q xs → (x : X) × P x × Q x

@@ -1,13 +1,13 @@
 -- The leeways of a class. With T = (5 + 3 class) / 10, f3 not negative and D = 4 f1 f3 - f2 f2, 4 f3 measure = D dx dx + (f2 dx + 2 f3 dy)^2; so where the
 -- measure is at most T, D dx dx is at most 4 f3 T, and D dy dy at most 4 f1 T by the other coordinate. What the code computes is greater than each such |dx|. A local place is
 -- rounded by half a unit at most, so it is no farther from its place in the rule than that.
-use Rattle.std.proofs.Common.{◌≡◌, ℕ, zero, suc, ◌+◌, ◌*◌, ◌-◌, ◌/◌, ◌<◌, ◌≤◌, ◌⊎◌, inl, inr, Bool, true, false, List, [], ◌∷◌, ◌++◌, length, map, min, slice_index_or, refl, sym, ap, ◌∙◌, subst, arith, ℤ, pos, negsuc, ◌+ℤ◌, ◌-ℤ◌, ◌*ℤ◌, ◌<ℤ◌, ◌≤ℤ◌}
+use Rattle.std.proofs.Common.{◌≡◌, ℕ, zero, suc, ◌+◌, ◌*◌, ◌-◌, ◌/◌, ◌<◌, ◌≤◌, ◌⊎◌, inl, inr, List, [], ◌∷◌, ◌++◌, length, map, min, slice_index_or, refl, sym, ap, ◌∙◌, subst, arith, ℤ, pos, negsuc, ◌+ℤ◌, ◌-ℤ◌, ◌*ℤ◌, ◌<ℤ◌, ◌≤ℤ◌}
 use mir.Val.{SFits}
 use mir.Syntax.{w128}
 use Rattle.std.proofs.lemmas.Int.{ints, to_z-of_z}
 use Rattle.std.proofs.Math.Nat.{div-lt_iff_lt-mul}
 use Rattle.std.specs.Int.RustNames.{unsigned_abs}
-use Rattle.std.specs.List.{AllByRecursion, All}
+use Rattle.std.specs.List.{AllByRecursion}
 use Rattle.grid_geom.specs.Bounds.{IsWithin}
 use Rattle.grid_geom.specs.declared.Point.{Point}
 use Rattle.grid_geom.proofs.Ring.{var, num, ◌⊕◌, ◌⊖◌, ◌⊗◌, ring}
@@ -15,9 +15,9 @@ use Rattle.grid_geom.proofs.Signs.{nn_mul, np_mul, either}
 use Rattle.rule_reader.specs.declared.rule.MapPoint.{MapPoint}
 use Rattle.rule_reader.specs.Normal.{IsMapPoint}
 use Rattle.rule_maps.specs.declared.reach.Leeway.{Leeway}
-use Rattle.rule_maps.specs.Fractions.{Fraction, IsNearest, nearest}
+use Rattle.rule_maps.specs.Fractions.{IsNearest, nearest}
 use Rattle.rule_maps.specs.Frame.{LocalFrame, IsFrame, IsInRange, way, dot, cross}
-use Rattle.rule_maps.specs.Reach.{in_range, leeway_at, IsNearPlace, IsNoGreater, AreNoGreater, IsLeeway}
+use Rattle.rule_maps.specs.Reach.{in_range, IsNearPlace, IsNoGreater, AreNoGreater, IsLeeway}
 use Rattle.rule_maps.proofs.Frames.{cast128, frame_bounds}
 use Rattle.rule_maps.proofs.InReach.{near_in_range}
 use Rattle.rule_maps.proofs.Rounding.{nearest_near}

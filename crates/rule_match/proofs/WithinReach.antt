@@ -1,11 +1,10 @@
 -- All places of a candidate lie in the reach of its line: the mapped points, the corners of the zone and of the elements.
-use Rattle.std.proofs.Common.{◌≡◌, ℕ, suc, ◌+◌, ◌-◌, ◌<◌, ◌≤◌, List, [], ◌∷◌, ◌++◌, length, map, slice_index_or, refl, sym, ap, ◌∙◌, subst, arith, length-append, ℤ, pos, neg_ℤ, ◌+ℤ◌, ◌-ℤ◌, ◌≤ℤ◌}
+use Rattle.std.proofs.Common.{◌≡◌, ℕ, suc, ◌+◌, ◌-◌, ◌<◌, ◌≤◌, List, [], ◌∷◌, ◌++◌, length, map, refl, sym, ap, ◌∙◌, subst, arith, length-append, ℤ, neg_ℤ, ◌+ℤ◌, ◌-ℤ◌, ◌≤ℤ◌}
 use Rattle.std.proofs.lemmas.Int.{ints}
 use Rattle.std.specs.List.{AllByRecursion, Contains}
 use Rattle.std.proofs.lemmas.List.{length-map}
 use Rattle.std.proofs.lemmas.List.Elements.{All-from_recursion, All-get_or, Contains-get_or}
 use Rattle.grid_geom.specs.declared.Point.{Point}
-use Rattle.grid_geom.specs.declared.Edge.{Edge}
 use Rattle.rule_reader.specs.declared.rule.Place.{Place}
 use Rattle.rule_reader.specs.declared.rule.MapLine.{MapLine}
 use Rattle.rule_reader.specs.Normal.{IsRule, IsMapLine, Names}

@@ -9,7 +9,7 @@
 -- setting_of   the attempt's rule tried on its line with these
 -- StandFor     numbers of near points stand for numbers of points
 -- IsTried      an assignment of near points that stands for these points meets each test
-use Rattle.std.specs.Prelude.{ℕ, ◌≡◌, ◌<◌, true, List, length, Option, Some}
+use Rattle.std.specs.Prelude.{ℕ, ◌≡◌, ◌<◌, true, List, length, Some}
 use Rattle.std.specs.List.{All, AllZip, list_any}
 use Rattle.grid_geom.specs.declared.Point.{Point}
 use Rattle.rule_maps.specs.Frame.{LocalFrame, local4_x, local4_y, IsInRange}

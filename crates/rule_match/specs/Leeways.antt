@@ -3,7 +3,7 @@
 -- IsEllipse      the deviations that a tolerance allows fill an ellipse
 -- IsLeewayAt     no point in range that is tolerated at the class is farther from its place in the rule
 -- AreLeewaysAt   so of each point of a rule, in its order
-use Rattle.std.specs.Prelude.{◌≡◌, ℕ, ◌≤◌, List, [], ◌∷◌, ℤ, pos, ◌-ℤ◌, ◌*ℤ◌}
+use Rattle.std.specs.Prelude.{◌≡◌, ℕ, ◌≤◌, List, [], ◌∷◌, pos, ◌-ℤ◌, ◌*ℤ◌}
 use Rattle.grid_geom.specs.declared.Point.{Point}
 use Rattle.rule_reader.specs.declared.rule.MapPoint.{MapPoint}
 use Rattle.rule_reader.specs.declared.rule.Triple.{Triple}

@@ -7,11 +7,15 @@
 -- IsCoveredAt          a rule is one that a reader gives, and n holds what its candidates up to a class use
 -- IsStayingLine        a front line that the later state has too
 -- IsReachAtMost        how far the reach of a line goes beyond its start
+-- IsReachBox           the box of a line's reach, cut off at the grid
 -- IsFarLine            a front line whose reach lies apart from a box
-use lib.IntN.{ℤ, pos, ◌+ℤ◌, ◌-ℤ◌, ◌*ℤ◌}
+use lib.IntN.{ℤ, pos, neg_ℤ, ◌+ℤ◌, ◌-ℤ◌, ◌*ℤ◌}
 use lib.Signed.{◌<ℤ◌, ◌≤ℤ◌}
 use Rattle.std.specs.Prelude.{ℕ, ◌≡◌, ◌⊎◌, ◌≤◌, List, ◌++◌}
+use Rattle.std.specs.Int.{int_max, int_min}
 use Rattle.grid_geom.specs.declared.Point.{Point}
+use Rattle.grid_geom.specs.declared.Bounds.{Bounds}
+use Rattle.grid_geom.specs.declared.TheConstants.{GRID}
 use Rattle.std.specs.List.{Contains}
 use Rattle.rule_reader.specs.declared.rule.Rule.{Rule}
 use Rattle.rule_reader.specs.Normal.{IsRule}
@@ -92,6 +96,24 @@ pub record IsReachAtMost (sizes : SizeField) (points : List Point) (n : ℕ) (st
       (size_at sizes frame.middle) frame
   pub positive : pos 0 ≤ℤ widening n frame
   pub within : widening n frame ≤ℤ steps
+
+-- the box around the grid
+abbrev pub whole_grid : Bounds
+whole_grid = record {
+  lo = record { x = neg_ℤ GRID; y = neg_ℤ GRID };
+  hi = record { x = GRID; y = GRID };
+}
+
+-- the line has a frame, and the box is that of its reach, cut off at the grid
+pub record IsReachBox (sizes : SizeField) (points : List Point) (n from to : ℕ) (box : Bounds) : Type 0 where
+  pub frame : LocalFrame
+  pub is_frame : IsFrame frame
+  pub framed : IsFrameOf (point_at points from) (point_at points to)
+      (size_at sizes frame.middle) frame
+  pub left : box.lo.x ≡ int_max (reach_lo n frame).x whole_grid.lo.x
+  pub right : box.hi.x ≡ int_min (reach_hi n frame).x whole_grid.hi.x
+  pub below : box.lo.y ≡ int_max (reach_lo n frame).y whole_grid.lo.y
+  pub above : box.hi.y ≡ int_min (reach_hi n frame).y whole_grid.hi.y
 
 -- the front line with the number, with its frame, and the box of its reach, which is apart from the box from least to greatest
 pub record IsFarLine (sizes : SizeField) (st : State) (n : ℕ) (least greatest : Point) (number : ℕ) : Type 0 where

@@ -10,13 +10,15 @@ ghost use Rattle.state_law.specs.Saved.{AreInBox, IsCorner};
 ghost use Rattle.state_law.specs.Gluing.{glue_all, MayAllBeGlued};
 ghost use Rattle.grid_geom.specs.declared.Point.{Point};
 ghost use Rattle.grid_geom.specs.declared.Edge.{Edge};
+ghost use Rattle.grid_geom.specs.declared.Bounds.{Bounds};
+ghost use Rattle.grid_geom.specs.Boxes.{DoBoundsMeet};
 ghost use Rattle.rule_match.specs.declared.progress.Note.{Note as Noted};
 ghost use Rattle.rule_match.specs.Candidate.{Attempt, IsCandidate};
 ghost use Rattle.rule_match.specs.Least.{HasNone, IsLeast};
-ghost use Rattle.std.specs.List.{AllByRecursion};
+ghost use Rattle.std.specs.List.{AllByRecursion, Contains};
 ghost use Rattle.rule_maps.specs.Frame.{LocalFrame};
 ghost use Rattle.state_law.specs.Reach.{AreAlikeIn, IsWithinReach};
-ghost use Rattle.rule_match.specs.Near.{AreBoxesApart, IsAlikeNear, IsBox, IsCovered, IsCoveredAt, IsCoveredBy, IsStayingLine, reach_lo, reach_hi};
+ghost use Rattle.rule_match.specs.Near.{AreBoxesApart, IsAlikeNear, IsBox, IsCovered, IsCoveredAt, IsCoveredBy, IsFarLine, IsReachBox, IsStayingLine, reach_lo, reach_hi, whole_grid};
 ghost use Rattle.rule_match.specs.Refused.{IsRefusedBy, IsExcused, places_of};
 ghost use Rattle.rule_match.specs.declared.near.NearPoint.{NearPoint as NearOne};
 ghost use Rattle.rule_match.specs.Trying.{Setting, ties};
@@ -52,6 +54,15 @@ pub fn law_near_at()
     ensures covered { (class n : ℕ) (r : Rule) → IsCoveredBy n r → IsCoveredAt class n r }
     ensures above { (class n : ℕ) (r : Rule) → IsRule r → class < r.quality →
         IsCoveredAt class n r }
+{}
+
+/// Where the box of a line's reach, cut off at the grid, lies apart from an area that meets the grid, so does
+/// all of the reach.
+pub fn law_reach_box()
+    ensures { (sizes : SizeField) (st : State) (n : ℕ) (line : ℕ × ℕ × ℕ) (box area : Bounds) →
+        Contains st.front line → IsReachBox sizes st.points n line.1 line.2 box →
+        DoBoundsMeet area whole_grid → AreBoxesApart box.lo box.hi area.lo area.hi →
+        IsFarLine sizes st n area.lo area.hi line.0 }
 {}
 
 /// Elements that lie in a box leave a front alike in each box apart from it.

@@ -1,8 +1,6 @@
-use Rattle.std.proofs.Common.{◌≡◌, ◌∙◌, sym, subst, length, Some}
-use Rattle.grid_geom.specs.declared.Point.{Point}
+use Rattle.std.proofs.Common.{◌∙◌, sym, subst, length}
 use Rattle.rule_maps.specs.Frame.{IsInRange}
 use Rattle.state_law.specs.State.{IsListed}
-use Rattle.front_chain.specs.Front.{line_at}
 use Rattle.admission.proofs.Ahead.{line_fact}
 use Rattle.rule_match.proofs.Gathered.{added}
 use Rattle.rule_match.proofs.around.add_line.Goals as goal

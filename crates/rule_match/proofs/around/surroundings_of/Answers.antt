@@ -1,4 +1,4 @@
-use Rattle.std.proofs.Common.{length, subst, sym, ◌∙◌, ap, ℕ, List, map, ◌↔◌, Contains, ◌≡◌}
+use Rattle.std.proofs.Common.{length, subst, sym, ◌∙◌, ap, ℕ, List, map, ◌↔◌, Contains}
 use Rattle.std.specs.List.{All}
 use Rattle.std.proofs.lemmas.List.Elements.{All-weaker}
 use Rattle.state_law.specs.State.{IsListed, point_at}

@@ -1,6 +1,5 @@
-use Rattle.std.proofs.Common.{◌≡◌, ◌∙◌, sym, ap, ℤ, ◌+ℤ◌}
-use Rattle.grid_geom.specs.declared.Point.{Point}
-use Rattle.rule_match.proofs.BaseLines.{pair_listed, pair_apart, framed}
+use Rattle.std.proofs.Common.{◌∙◌, sym}
+use Rattle.rule_match.proofs.BaseLines.{pair_apart, framed}
 use Rattle.rule_match.proofs.base.frame_of.Goals as goal
 
 pub new-requires-clause-different : goal.new-requires-clause-different

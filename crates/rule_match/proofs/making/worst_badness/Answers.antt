@@ -1,11 +1,6 @@
-use Rattle.std.proofs.Common.{◌≡◌, ◌∙◌, sym, ap, subst, length, List, ◌<◌, map, take, ◌++◌, ◌∷◌, [], ℕ}
+use Rattle.std.proofs.Common.{◌∙◌, sym, subst}
 use Rattle.std.specs.List.{All}
-use Rattle.std.proofs.lemmas.List.{length-map, take_more, map-append}
-use Rattle.grid_geom.specs.declared.Point.{Point}
 use Rattle.grid_geom.specs.Bounds.{IsOnGrid}
-use Rattle.state_law.specs.State.{corners_of, point_at}
-use Rattle.rule_match.specs.declared.badness.Badness.{Badness}
-use Rattle.rule_match.specs.Least.{badness_of, worse, worst}
 use Rattle.rule_match.proofs.NewParts.{area_small, worst_pushed, three_corners}
 use Rattle.rule_match.proofs.making.worst_badness.Goals as goal
 

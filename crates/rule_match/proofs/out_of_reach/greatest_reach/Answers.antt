@@ -1,4 +1,4 @@
-use Rattle.std.proofs.Common.{◌≡◌, ℕ, ◌+◌, ◌-◌, ◌<◌, ◌≤◌, length, slice_index_or, sym, ap, ◌∙◌, arith}
+use Rattle.std.proofs.Common.{◌≡◌, ℕ, ◌+◌, ◌-◌, ◌<◌, ◌≤◌, length, slice_index_or, ap, ◌∙◌, arith}
 use Rattle.rule_match.proofs.FarLines.{one_more_covered}
 use Rattle.rule_match.proofs.out_of_reach.greatest_reach.Goals as goal
 

@@ -1,4 +1,4 @@
-use Rattle.std.proofs.Common.{◌≡◌, ◌∙◌, sym, Some}
+use Rattle.std.proofs.Common.{◌∙◌, sym}
 use Rattle.rule_match.proofs.Gathered.{line_pair}
 use Rattle.rule_match.proofs.FarLines.{far_line, beside, above_or_below}
 use Rattle.rule_match.proofs.out_of_reach.is_out_of_reach.Goals as goal

@@ -1,6 +1,5 @@
-use Rattle.std.proofs.Common.{ℕ, ◌∙◌, sym}
+use Rattle.std.proofs.Common.{◌∙◌, sym}
 use Rattle.rule_match.proofs.Gathered.{line_pair}
-use Rattle.rule_match.proofs.FarLines.{reach_at_most}
 use Rattle.rule_match.proofs.out_of_reach.reach_beyond.Goals as goal
 
 pub frame_of-frame-requires : goal.frame_of-frame-requires

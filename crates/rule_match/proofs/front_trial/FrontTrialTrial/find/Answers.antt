@@ -1,7 +1,6 @@
 use Rattle.std.proofs.Common.{subst, sym, ◌∙◌}
 use Rattle.std.specs.List.{All}
 use Rattle.std.proofs.lemmas.List.Elements.{All-append, All-weaker}
-use Rattle.grid_geom.specs.declared.Point.{Point}
 use Rattle.grid_geom.specs.Bounds.{IsOnGrid}
 use Rattle.rule_maps.specs.Frame.{IsInRange}
 use Rattle.rule_match.proofs.front_trial.FrontTrialTrial.find.Goals as goal
