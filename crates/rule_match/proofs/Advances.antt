@@ -45,7 +45,7 @@ no_worse_chain None (Some s) (Some r) h k = absurd h
 no_worse_chain (Some t) (Some s) (Some r) h k = upto rank_total t s r h k
 
 -- nothing found later, nothing found before
-none_before : (new old : Option Found) → IsNoWorse new old → new ≡ None → old ≡ None
+pub none_before : (new old : Option Found) → IsNoWorse new old → new ≡ None → old ≡ None
 none_before new None h e = refl
 none_before new (Some r) h e = absurd (subst (λ (z : Option Found). IsNoWorse z (Some r)) e h)
 

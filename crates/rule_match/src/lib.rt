@@ -12,7 +12,7 @@
 //!    meet the range, and are shared by all rules.
 //! 6. A search may note why assignments fail: front lines, each beside a mapped point. An assignment
 //!    that no front line hinders fails by its places alone, or by what no application undoes. `best`
-//!    makes no notes.
+//!    makes no notes, `best_noted` makes them.
 
 mod application;
 mod around;
@@ -44,7 +44,7 @@ pub use assignment::Assignment;
 pub use badness::Badness;
 pub use found::Found;
 pub use fresh::search_fresh;
-pub use least::{best, some_may_apply};
+pub use least::{best, best_noted, some_may_apply};
 pub use near::NearPoint;
 pub use out_of_reach::{
     Distance, greatest_reach, greatest_reach_at, is_out_of_reach, reach_beyond, reach_box,
