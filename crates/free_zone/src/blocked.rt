@@ -1,9 +1,9 @@
 //! What of a front is in the way of a zone.
-ghost use Rattle.std.specs.Prelude.{◌≡◌, ◌≢◌, ◌↔◌, ◌⊎◌, length, IsTrue, IsFalse, is_some};
+ghost use Rattle.std.specs.Prelude.{◌≡◌, ◌≢◌, ◌↔◌, ◌⊎◌, length, IsTrue, IsFalse, IfNone, IfSome, is_some};
 ghost use Rattle.std.specs.List.{Any, Contains};
 ghost use Rattle.state_law.specs.State.{IsListed, point_at};
 ghost use Rattle.front_chain.specs.Front.{line_at, is_near};
-ghost use Rattle.free_zone.specs.InTheWay.{mapping, nth, mapped_pair, IsMappedLine, IsInside, IsBeside, IsFreePoint, IsFreeLine, IsAnswer};
+ghost use Rattle.free_zone.specs.InTheWay.{mapping, nth, mapped_pair, IsMappedLine, IsInside, IsBeside, IsFreePoint, IsFreeLine, HasNoLine, IsLineInWay, IsLeast, IsAnswer};
 ghost use Rattle.free_zone.specs.Walked.{IsCounted, IsPassed, IsFound};
 
 use crate::mapped::is_mapped;
@@ -138,5 +138,18 @@ impl Zone {
             (None, Some(n)) => Some(Blocker::Line(n)),
             (None, None) => None,
         }
+    }
+
+    /// The least front line that is neither mapped nor apart from the zone, if there is one. It takes
+    /// no memory.
+    ///
+    /// Where a front point is in the way so is each line that ends there, so there is none exactly
+    /// where nothing is in the way.
+    pub fn line_in_way(&self, front: &Front, c: &Compiled<'_>, mapped: &[u64]) -> Option<u64>
+        ensures least { IfSome result
+            (IsLeast (IsLineInWay self.now (mapping front.now c.now mapped.now))) }
+        ensures none { IfNone result (HasNoLine self.now (mapping front.now c.now mapped.now)) }
+    {
+        self.found(front, c, mapped).line
     }
 }

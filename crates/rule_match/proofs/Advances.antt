@@ -45,14 +45,14 @@ no_worse_chain None (Some s) (Some r) h k = absurd h
 no_worse_chain (Some t) (Some s) (Some r) h k = upto rank_total t s r h k
 
 -- nothing found later, nothing found before
-none_before : (new old : Option Found) → IsNoWorse new old → new ≡ None → old ≡ None
+pub none_before : (new old : Option Found) → IsNoWorse new old → new ≡ None → old ≡ None
 none_before new None h e = refl
 none_before new (Some r) h e = absurd (subst (λ (z : Option Found). IsNoWorse z (Some r)) e h)
 
-begins_same : (ns : List Note) → BeginsWith ns ns
+pub begins_same : (ns : List Note) → BeginsWith ns ns
 begins_same ns = ([], sym (append-nil ns))
 
-begins_chain : (late mid early : List Note) → BeginsWith late mid → BeginsWith mid early → BeginsWith late early
+pub begins_chain : (late mid early : List Note) → BeginsWith late mid → BeginsWith mid early → BeginsWith late early
 begins_chain late mid early h k = (k.0 ++ h.0, h.1 ∙ (ap (λ (z : List Note). z ++ h.0) k.1 ∙ append_assoc early k.0 h.0))
 
 -- ---- what is found was found before, or is a candidate

@@ -41,7 +41,7 @@ at_next [] q qs (suc k) d e = absurd (omega (arith, e))
 at_next (p ∷ ps) q qs zero d e = absurd (omega (arith, e))
 at_next (p ∷ ps) q qs (suc k) d e = at_next ps q qs k d (omega (arith, e))
 
-listed_same : (ps qs : List Point) (n : ℕ) → IsListed (length ps) n → point_at (ps ++ qs) n ≡ point_at ps n
+pub listed_same : (ps qs : List Point) (n : ℕ) → IsListed (length ps) n → point_at (ps ++ qs) n ≡ point_at ps n
 listed_same ps qs n h = at_left ps qs (n - 1) origin (omega (arith, h.0, h.1))
 
 all_same : (ps qs : List Point) (ns : List ℕ) → AllByRecursion (IsListed (length ps)) ns → map (point_at (ps ++ qs)) ns ≡ map (point_at ps) ns
@@ -88,7 +88,7 @@ module _ (points made : List Point) (ns : List ℕ) (h : AllByRecursion (IsListe
   abbrev IsElement : List ℕ → Type 0
   IsElement e = (length e ≡ 3) × AllByRecursion (Names (length ns + length made)) e
 
-  elements_same : (es : List (List ℕ)) → AllByRecursion IsElement es → map (corners_of (points ++ made)) (map (map (nth all_numbers)) es) ≡ map (corners_of all_places) es
+  pub elements_same : (es : List (List ℕ)) → AllByRecursion IsElement es → map (corners_of (points ++ made)) (map (map (nth all_numbers)) es) ≡ map (corners_of all_places) es
   elements_same [] r = refl
   elements_same (e ∷ es) r = ap (λ (c : List Point). c ∷ map (corners_of (points ++ made)) (map (map (nth all_numbers)) es)) (element_same e r.0.1) ∙ ap (λ (cs : List (List Point)). corners_of all_places e ∷ cs) (elements_same es r.1)
 
@@ -198,19 +198,19 @@ all_distinct points (q ∷ qs) i a d =
     (all_distinct (points ++ q ∷ []) qs (distinct_push points q i (is_none_of (number_of points q) g.0)) (still_new points q qs (not_any (list_any (same_point q) qs) k.0) g.1) k.1)
 
 -- ---- the front with new points listed
-edges_same : (points made : List Point) (lines : List (ℕ × ℕ × ℕ)) → AllByRecursion (λ line. IsListed (length points) line.1 × IsListed (length points) line.2) lines → front_edges (points ++ made) lines ≡ front_edges points lines
+pub edges_same : (points made : List Point) (lines : List (ℕ × ℕ × ℕ)) → AllByRecursion (λ line. IsListed (length points) line.1 × IsListed (length points) line.2) lines → front_edges (points ++ made) lines ≡ front_edges points lines
 edges_same points made [] h = refl
 edges_same points made (line ∷ lines) h =
     ap (λ (p : Point). record { a = p; b = point_at (points ++ made) line.2 } ∷ front_edges (points ++ made) lines) (listed_same points made line.1 h.0.0)
     ∙ ap (λ (p : Point). record { a = point_at points line.1; b = p } ∷ front_edges (points ++ made) lines) (listed_same points made line.2 h.0.1)
     ∙ ap (λ (es : List Edge). pair_edge points (line.1, line.2) ∷ es) (edges_same points made lines h.1)
 
-lines_still : (points made : List Point) (lines : List (ℕ × ℕ × ℕ)) → AllByRecursion (λ line. IsListed (length points) line.1 × IsListed (length points) line.2) lines → AllByRecursion (λ line. IsListed (length (points ++ made)) line.1 × IsListed (length (points ++ made)) line.2) lines
+pub lines_still : (points made : List Point) (lines : List (ℕ × ℕ × ℕ)) → AllByRecursion (λ line. IsListed (length points) line.1 × IsListed (length points) line.2) lines → AllByRecursion (λ line. IsListed (length (points ++ made)) line.1 × IsListed (length (points ++ made)) line.2) lines
 lines_still points made [] h = tt
 lines_still points made (line ∷ lines) h = (((h.0.0.0, omega (arith, h.0.0.1, length-append points made)), (h.0.1.0, omega (arith, h.0.1.1, length-append points made))), lines_still points made lines h.1)
 
 module _ (f : FrontState) (made : List Point) (ns : List ℕ) (s : IsFrontState f) (h : AllByRecursion (IsListed (length f.points)) ns) (new : are_new f.points made ≡ true) (differ : do_differ made ≡ true) where
-  numbered : IsNumbered (entered f made)
+  pub numbered : IsNumbered (entered f made)
   numbered = record { different = all_distinct f.points made s.numbered.different new differ; lines_listed = lines_still f.points made f.lines s.numbered.lines_listed }
 
   pub may_follow_is : (es : List (List ℕ)) → AllByRecursion (λ e. (length e ≡ 3) × AllByRecursion (Names (length ns + length made)) e) es →

@@ -5,10 +5,10 @@ use mathlib.Core.Path.{◌≡◌, refl, sym, subst, ap, ◌∙◌}
 use mathlib.Core.Bool.{true≢false}
 use mathlib.Core.List.{List, [], ◌∷◌, ◌++◌}
 use mathlib.Core.Logic.{◌⊎◌, inl, inr}
-use Rattle.std.specs.Prelude.{Bool, true, false, not, ◌&&◌, ◌↔◌, IsTrue, is_none, is_some, Option, None, Some, slice_index_or, length, map}
+use Rattle.std.specs.Prelude.{Bool, true, false, not, ◌&&◌, ◌↔◌, IsTrue, is_none, Option, None, Some, slice_index_or, length, map}
 use Rattle.std.specs.List.{All, AllByRecursion, Contains, IsDistinct, list_any, list_all}
 use Rattle.std.proofs.lemmas.List.{length-map}
-use Rattle.std.proofs.lemmas.List.Elements.{All-from_recursion, recursion_from_All, All-contains}
+use Rattle.std.proofs.lemmas.List.Elements.{All-from_recursion, recursion_from_All}
 use Rattle.grid_geom.specs.declared.Point.{Point}
 use Rattle.grid_geom.specs.Bounds.{IsOnGrid}
 use Rattle.grid_geom.specs.Closed.{same_point}
@@ -17,11 +17,7 @@ use Rattle.rule_reader.specs.declared.rule.Rule.{Rule}
 use Rattle.rule_maps.specs.Places.{mapping}
 use Rattle.state_law.specs.State.{point_at, corners_of, front_edges, IsListed}
 use Rattle.front_chain.specs.Front.{FrontState, state_of, number_of}
-use Rattle.free_zone.specs.declared.blocked.Blocker.{Blocker}
-use Rattle.free_zone.specs.declared.blocked.Blocker.TheVariants.{Point as AtPoint, Line as AtLine}
-use Rattle.free_zone.specs.Zone.{IsZone, zone_of}
-use Rattle.free_zone.specs.InTheWay as way
-use Rattle.free_zone.specs.InTheWay.{HasNoPoint, HasNoLine, IsAnswer, IsFreeLine}
+use Rattle.free_zone.specs.Zone.{zone_of}
 use Rattle.rule_match.specs.Candidate.{mapped, elements, IsFrontPoint, IsCandidate}
 use Rattle.rule_match.specs.Candidate.{made as made_at}
 use Rattle.rule_match.specs.Candidate.{made_of}
@@ -42,10 +38,9 @@ use Rattle.front_chain.proofs.Places.{unlisted, absent_place}
 use Rattle.geom_check.proofs.Closing.{same_point_is}
 use Rattle.std.specs.declared.result.Result.{Result}
 use Rattle.std.specs.declared.result.Result.TheVariants.{Ok, Err}
-use Rattle.std.specs.Prelude.{IfOk, ◌||◌}
+use Rattle.std.specs.Prelude.{IfOk, OnOk, ◌||◌}
 use Rattle.rule_match.specs.Trying.{near_at, ties}
 use Rattle.rule_match.specs.Base.{BaseLine, Tried, IsTrying, HasFreeZone, HasNewPoints, elements_by, numbers_at, attempt_of, setting_at}
-use Rattle.rule_match.proofs.BaseLines.{line_there}
 use Rattle.rule_match.proofs.Standing.{place_of, all_within, all_in_range, all_on_front, all_different, at_start, at_end, at_lines, points_tolerated, lines_tolerated, turned}
 
 -- ---- the mapped places
@@ -59,49 +54,8 @@ mapped_is t base b places g i l f e = e ∙ ap (λ (z : BaseLine). map (λ k. (n
 pub mapped_near : (t : Tried) (base : BaseLine) (b : List ℕ) (places : List Point) → base ≡ t.base → IsTrying t → length b ≡ length t.rule.points → fits_so_far (ties (setting_at t)) b ≡ true → places ≡ map (λ k. (near_at base.near k).at) b → All (IsInRange t.base.frame) places
 mapped_near t base b places g i l f e = subst (All (IsInRange t.base.frame)) (sym (mapped_is t base b places g i l f e)) (All-from_recursion (IsInRange t.base.frame) (mapped (state_of t.base.front) (attempt_of t b)) (all_in_range t i b l f b (all_within t i b l f)))
 
--- ---- the zone
 none_true : {A : Type 0} → IsTrue false → A
 none_true h = absurd (cc)
-
-module _ (t : Tried) (places : List Point) (numbers : List ℕ) where
-  abbrev z : List Point
-  z = zone_of (mapping t.base.frame t.rule places) t.base.class
-
-  abbrev m : way.Mapped
-  m = way.mapping t.base.front t.rule numbers
-
-  point_free : (n : ℕ) → way.IsPointInWay z m n → HasNoPoint z m → ⊥
-  point_free n w h = by (h n w.on_front)
-    where
-      by : way.IsFreePoint z m n → ⊥
-      by (inl c) = w.not_mapped c
-      by (inr c) = c w.inside
-
-  line_free : (n : ℕ) → way.IsLineInWay z m n → HasNoLine z m → ⊥
-  line_free n w h = by (All-contains (λ line. IsFreeLine z m (line.1, line.2)) t.base.front.lines (n, w.ends.0, w.ends.1) (All-from_recursion (λ line. IsFreeLine z m (line.1, line.2)) t.base.front.lines h) (line_there t.base.front.lines n w.ends w.on_front))
-    where
-      by : IsFreeLine z m (w.ends.0, w.ends.1) → ⊥
-      by (inl c) = w.not_mapped c
-      by (inr c) = w.not_apart c
-
-  free_told : (o : Option Blocker) → IsZone z → IsAnswer z m o → IsTrue (is_none o) ↔ HasFreeZone t places numbers
-  free_told None k a = (λ h. record { zone = k; no_point = a.0; no_line = a.1 }, λ h. refl)
-  free_told (Some (AtPoint n)) k a = (λ h. none_true h, λ h. absurd (point_free n a.is h.no_point))
-  free_told (Some (AtLine n)) k a = (λ h. none_true h, λ h. absurd (line_free n a.1.is h.no_line))
-
-  -- the same with the parts under other names
-  pub zone_told : (base : BaseLine) (front : FrontState) (frame : LocalFrame) (class : ℕ) (rule : Rule) (zone : List Point) (o : Option Blocker) → base ≡ t.base → front ≡ base.front → frame ≡ base.frame → class ≡ base.class → rule ≡ t.rule →
-      zone ≡ zone_of (mapping frame rule places) class → IsZone zone → IsAnswer zone (way.mapping front rule numbers) o → IsTrue (is_none o) ↔ HasFreeZone t places numbers
-  zone_told base front frame class rule zone o eb ef er ec el e k a =
-      let same : zone ≡ z = e ∙ ap (λ (f : LocalFrame). zone_of (mapping f rule places) class) (er ∙ ap (λ (b : BaseLine). b.frame) eb) ∙ ap (λ (n : ℕ). zone_of (mapping t.base.frame rule places) n) (ec ∙ ap (λ (b : BaseLine). b.class) eb) ∙ ap (λ (r : Rule). zone_of (mapping t.base.frame r places) t.base.class) el in
-      free_told o (subst IsZone same k) (subst (λ (zs : List Point). IsAnswer zs m o) same (subst (λ (f : FrontState). IsAnswer zone (way.mapping f t.rule numbers) o) (ef ∙ ap (λ (b : BaseLine). b.front) eb) (subst (λ (r : Rule). IsAnswer zone (way.mapping front r numbers) o) el a)))
-
-pub unless : {X : Type 0} (b : Bool) (o : Option Blocker) → is_some o ≡ not b → IsTrue (is_none o) ↔ X → IsTrue b ↔ X
-unless {X} b o e k = subst (λ (z : Bool). IsTrue z ↔ X) (same b (is_some o) (sym e)) k
-  where
-    same : (b c : Bool) → not b ≡ c → not c ≡ b
-    same true c e = ap not (sym e)
-    same false c e = ap not (sym e)
 
 -- ---- the elements
 module _ (t : Tried) (b : List ℕ) (made : List Point) (i : IsTrying t) (l : length b ≡ length t.rule.points) (f : fits_so_far (ties (setting_at t)) b ≡ true) (news : HasNewPoints t b made) where
@@ -122,7 +76,7 @@ module _ (t : Tried) (b : List ℕ) (made : List Point) (i : IsTrying t) (l : le
   made_counted : length ns + length made ≡ length t.rule.points + length t.rule.new_points
   made_counted = omega (arith, l, length-map b (λ k. (near_at t.base.near k).number), ap length news.made, as_many (mapping t.base.frame t.rule (mapped (state_of t.base.front) (attempt_of t b))) 1 t.rule.new_points)
 
-  rule_elements : AllByRecursion (λ e. (length e ≡ 3) × AllByRecursion (Names (length ns + length made)) e) t.rule.elements
+  pub rule_elements : AllByRecursion (λ e. (length e ≡ 3) × AllByRecursion (Names (length ns + length made)) e) t.rule.elements
   rule_elements = subst (λ (n : ℕ). AllByRecursion (λ e. (length e ≡ 3) × AllByRecursion (Names n) e) t.rule.elements) (sym made_counted) i.rule.elements.1
 
   pub ready_distinct : IsDistinct same_point (t.base.front.points ++ made)
@@ -202,7 +156,7 @@ unfolding IsDistinct
 differ_then [] h = tt
 differ_then (p ∷ made) h = let g = both (not (list_any (same_point p) made)) (do_differ made) h in (none_same p made g.0, differ_then made g.1)
 
-then_differ : (made : List Point) → IsDistinct same_point made → do_differ made ≡ true
+pub then_differ : (made : List Point) → IsDistinct same_point made → do_differ made ≡ true
 unfolding IsDistinct
 then_differ [] h = refl
 then_differ (p ∷ made) h = pair (not (list_any (same_point p) made)) (do_differ made) (same_none p made h.0) (then_differ made h.1)
@@ -215,13 +169,6 @@ pub candidate_differ : (t : Tried) (b : List ℕ) (made : List Point) → made �
 candidate_differ t b made e c = subst (λ (ps : List Point). do_differ ps ≡ true) (sym e) (then_differ (made_at (state_of t.base.front) (attempt_of t b)) c.made_different)
 
 -- ---- the whole
-pub candidate_free : (t : Tried) (b : List ℕ) (places : List Point) (numbers : List ℕ) → places ≡ mapped (state_of t.base.front) (attempt_of t b) → numbers ≡ numbers_at t.base.near b → IsCandidate (state_of t.base.front) (attempt_of t b) → HasFreeZone t places numbers
-candidate_free t b places numbers e g c = subst (λ (ps : List Point). HasFreeZone t ps numbers) (sym e) (subst (HasFreeZone t (mapped (state_of t.base.front) (attempt_of t b))) (sym g) (record {
-  zone = record { on_grid = All-from_recursion IsOnGrid (zone_of (mapping t.base.frame t.rule (mapped (state_of t.base.front) (attempt_of t b))) t.base.class) c.zone_on_grid; convex = c.zone_convex };
-  no_point = c.no_point_in_zone;
-  no_line = c.no_line_in_zone;
-}))
-
 pub candidate_of : (t : Tried) (b : List ℕ) (made places : List Point) (numbers : List ℕ) → IsTrying t → length b ≡ length t.rule.points → fits_so_far (ties (setting_at t)) b ≡ true → HasNewPoints t b made →
     places ≡ mapped (state_of t.base.front) (attempt_of t b) → numbers ≡ numbers_at t.base.near b → HasFreeZone t places numbers → MayAllBeGlued (elements (state_of t.base.front) (attempt_of t b)) (front_edges t.base.front.points t.base.front.lines) → IsCandidate (state_of t.base.front) (attempt_of t b)
 candidate_of t b made places numbers i l f n e g z m =
@@ -254,6 +201,10 @@ candidate_of t b made places numbers i l f n e g z m =
 pub if_ok : {A E : Type 0} (P Q : A → Type 0) (r : Result A E) → ((x : A) → P x → Q x) → IfOk r P → IfOk r Q
 if_ok P Q (Ok x) h k = h x k
 if_ok P Q (Err e) h k = tt
+
+pub on_ok : {A E : Type 0} (P Q : Type 0) (r : Result A E) → (P → Q) → OnOk r P → OnOk r Q
+on_ok P Q (Ok x) h k = h k
+on_ok P Q (Err e) h k = tt
 
 -- new points with their parts under other names
 pub made_told : (t : Tried) (b : List ℕ) (base : BaseLine) (frame : LocalFrame) (rule : Rule) (places made : List Point) → base ≡ t.base → frame ≡ base.frame → rule ≡ t.rule → places ≡ mapped (state_of t.base.front) (attempt_of t b) → made ≡ made_of (mapping frame rule places) → made ≡ made_at (state_of t.base.front) (attempt_of t b)

@@ -5,9 +5,8 @@ pub mod OneLeast
 pub mod Advances
 pub mod Turns
 pub mod Regions
--- Reasons: Places, from candidates by numbers to candidates by places; MoreNotes, reasons with more notes; KeptOne, reasons over an application.
+-- Reasons: Places, from candidates by numbers to candidates by places; KeptOne, reasons over an application.
 pub mod Places
-pub mod MoreNotes
 pub mod KeptOne
 -- First points: Prefixes, what fails of them fails however they go on; Orders, the rule's order and the order of mapping; NextPoint, the tests when one point more is mapped; Covered, the regions of points; Tried, that a candidate's points meet each test.
 pub mod Prefixes
@@ -47,3 +46,7 @@ pub mod ReachBoxes
 -- Tolerated: how far tolerated points are from their places. CoversAt: numbers that cover rules up to a class.
 pub mod Tolerated
 pub mod CoversAt
+-- Reasons of assignments that fail: NotesMade, notes as they are made; Hindered, refusals of elements; Excused, each reason.
+pub mod NotesMade
+pub mod Hindered
+pub mod Excused

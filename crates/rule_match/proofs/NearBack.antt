@@ -78,7 +78,7 @@ module _ (pts : List Point) (different : IsDistinct same_point pts) where
   abbrev pair_of : ℕ → ℕ → ℕ × ℕ
   pair_of a b = (a, b)
 
-  line_number : (ns : List ℕ) (lines : List MapLine) (line : Triple) → AllByRecursion (λ l. IsListed (length pts) (mapped_pair ns l).0 × IsListed (length pts) (mapped_pair ns l).1) lines → IsListed (length pts) line.1 × IsListed (length pts) line.2
+  pub line_number : (ns : List ℕ) (lines : List MapLine) (line : Triple) → AllByRecursion (λ l. IsListed (length pts) (mapped_pair ns l).0 × IsListed (length pts) (mapped_pair ns l).1) lines → IsListed (length pts) line.1 × IsListed (length pts) line.2
       → IsIn (pair_edge pts (line.1, line.2)) (map (λ l. pair_edge pts (mapped_pair ns l)) lines) → Any (λ l. mapped_pair ns l ≡ (line.1, line.2)) lines
   line_number ns [] line l k h = absurd h
   line_number ns (m ∷ lines) line l k (inl e) = any_first (λ l. mapped_pair ns l ≡ (line.1, line.2)) m lines
@@ -168,12 +168,12 @@ by_numbers st t known a c = record {
 
 -- ---- from the later state to the earlier one
 -- the k-th line's ends are listed
-ends_listed : (n : ℕ) (front : List Triple) (k : ℕ) (line : Triple) → LinesListed n front → k < length front → slice_index_or front k line ≡ line → IsListed n line.1 × IsListed n line.2
+pub ends_listed : (n : ℕ) (front : List Triple) (k : ℕ) (line : Triple) → LinesListed n front → k < length front → slice_index_or front k line ≡ line → IsListed n line.1 × IsListed n line.2
 ends_listed n [] k line h w e = absurd (omega (arith, w))
 ends_listed n (other ∷ front) zero line h w e = subst (λ (l : Triple). IsListed n l.1 × IsListed n l.2) e h.0
 ends_listed n (other ∷ front) (suc k) line h w e = ends_listed n front k line h.1 (omega (arith, w)) e
 
-front_listed : (st : State) (n : ℕ) → IsNumbered st → IsFrontPoint st n → IsListed (length st.points) n
+pub front_listed : (st : State) (n : ℕ) → IsNumbered st → IsFrontPoint st n → IsListed (length st.points) n
 front_listed st n h f = by f.4 (ends_listed (length st.points) st.front f.0 f.1 h.lines_listed f.2 f.3)
   where
     by : (f.1.1 ≡ n) ⊎ (f.1.2 ≡ n) → IsListed (length st.points) f.1.1 × IsListed (length st.points) f.1.2 → IsListed (length st.points) n
@@ -207,7 +207,7 @@ pairs_kept : (pts more later : List Point) (ns : List ℕ) (lines : List MapLine
 pairs_kept pts more later ns [] e h = refl
 pairs_kept pts more later ns (l ∷ lines) e h = λ i. record { a = kept_point pts more later (mapped_pair ns l).0 e h.0.0 i; b = kept_point pts more later (mapped_pair ns l).1 e h.0.1 i } ∷ pairs_kept pts more later ns lines e h.1 i
 
-pairs_listed : (n count : ℕ) (ns : List ℕ) (lines : List MapLine) → length ns ≡ count → AllByRecursion (IsListed n) ns → AllByRecursion (IsMapLine count) lines → ArePairsListed n ns lines
+pub pairs_listed : (n count : ℕ) (ns : List ℕ) (lines : List MapLine) → length ns ≡ count → AllByRecursion (IsListed n) ns → AllByRecursion (IsMapLine count) lines → ArePairsListed n ns lines
 pairs_listed n count ns [] e l h = tt
 pairs_listed n count ns (m ∷ lines) e l h = ((at m.i h.0.i, at m.j h.0.j), pairs_listed n count ns lines e l h.1)
   where

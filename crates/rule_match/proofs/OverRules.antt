@@ -27,8 +27,12 @@ use Rattle.rule_match.specs.Trying.{ties}
 use Rattle.rule_match.specs.Around.{StandFor}
 use Rattle.rule_match.specs.Base.{BaseLine, IsBaseLine, IsBaseOf, Tried, attempt_of, numbers_at, setting_at}
 use Rattle.rule_match.specs.Idle.{NoneApplies, SomeMayApply}
-use Rattle.rule_match.specs.Passed.{IsPassed, IsOn, IsFind, IsFindIfAny, IsLeastSoFar, NoneMayApply, Holds, rank_of, state_at}
-use Rattle.rule_match.proofs.Advances.{no_worse_chain}
+use Rattle.rule_match.specs.Passed.{IsPassed, IsOn, IsFind, IsFindIfAny, IsLeastSoFar, AreExcusedSoFar, IsSoFar, NoneMayApply, Holds, rank_of, state_at}
+use Rattle.rule_match.specs.declared.progress.Note.{Note}
+use Rattle.rule_match.specs.Refused.{IsAllowed, FitsFront, IsExcused, IsRefusedBy}
+use Rattle.rule_match.specs.MoreNotes.{excused_more}
+use Rattle.rule_match.proofs.Places.{allowed, on_its_front}
+use Rattle.rule_match.proofs.Advances.{none_before, no_worse_chain}
 use Rattle.rule_match.proofs.Gathered.{line_numbered}
 use Rattle.rule_match.proofs.Tried.{tried}
 
@@ -52,21 +56,21 @@ record HasAssignment (tried : Tried) (t : Attempt) : Type 0 where
   counted : length assignment ≡ length tried.rule.points
   fits : fits_so_far (ties (setting_at tried)) assignment ≡ true
 
-assigned : (base : BaseLine) (rules : List Rule) (t : Attempt) → IsBaseLine base → IsOn base rules t → IsCandidate (state_at base) t → HasAssignment (record { base = base; number = t.rule; rule = t.text }) t
-assigned base rules t line on c =
+assigned : (base : BaseLine) (rules : List Rule) (t : Attempt) → IsBaseLine base → IsOn base rules t → IsAllowed (state_at base) t → FitsFront (state_at base) t → HasAssignment (record { base = base; number = t.rule; rule = t.text }) t
+assigned base rules t line on a h =
     let u : Attempt = record { class = base.class; line = base.line; frame = base.frame; rule = t.rule; text = t.text; points = t.points } in
     let same : t ≡ u = λ i. record { class = on.class i; line = on.line i; frame = on.frame i; rule = t.rule; text = t.text; points = t.points } in
-    let found = tried (state_at base) u base.near base.lines line.surrounded.around (subst (IsCandidate (state_at base)) same c) in
+    let found = tried (state_at base) u base.near base.lines line.surrounded.around (subst (IsAllowed (state_at base)) same a) (subst (FitsFront (state_at base)) same h) in
     let numbers : numbers_at base.near found.assignment ≡ t.points = numbers_are base.near found.assignment t.points found.stands in
     record {
       assignment = found.assignment;
       same = ap (λ (ns : List ℕ). record { class = base.class; line = base.line; frame = base.frame; rule = t.rule; text = t.text; points = ns }) numbers ∙ sym same;
-      counted = as_long base.near found.assignment t.points found.stands ∙ c.counted;
+      counted = as_long base.near found.assignment t.points found.stands ∙ a.counted;
       fits = found.fits;
     }
 
 -- ---- rule after rule
-pub none_so_far : (b : BaseLine) (rules : List Rule) → IsLeastSoFar b rules 0 None
+none_so_far : (b : BaseLine) (rules : List Rule) → IsLeastSoFar b rules 0 None
 none_so_far b rules = record { found = tt; least = λ t on few c. absurd (no_rule t.rule on.first few) }
   where
     no_rule : (n : ℕ) → 1 ≤ n → n ≤ 0 → ⊥
@@ -86,7 +90,7 @@ text_at rules n k text rule e h is =
     or_other x (Some z) = z
 
 -- a rule that never applies at the class changes nothing
-pub skipped : (b : BaseLine) (rules : List Rule) (k : ℕ) (rule : Rule) (best : Option Found) → slice_get rules k ≡ Some rule → (IsLive rule → rule.quality ≤ b.class → ⊥) → IsLeastSoFar b rules k best → IsLeastSoFar b rules (k + 1) best
+skipped : (b : BaseLine) (rules : List Rule) (k : ℕ) (rule : Rule) (best : Option Found) → slice_get rules k ≡ Some rule → (IsLive rule → rule.quality ≤ b.class → ⊥) → IsLeastSoFar b rules k best → IsLeastSoFar b rules (k + 1) best
 skipped b rules k rule best is never so_far = record { found = so_far.found; least = λ t on few c. by t on c (before_or_last t.rule k few) }
   where
     by : (t : Attempt) → IsOn b rules t → IsCandidate (state_at b) t → (t.rule ≤ k) ⊎ (t.rule ≡ k + 1) → IsNoWorse best (Some (rank (state_at b) t))
@@ -96,7 +100,7 @@ skipped b rules k rule best is never so_far = record { found = so_far.found; lea
         absurd (never (subst IsLive same c.live) (subst (λ (n : ℕ). rule.quality ≤ n) on.class (subst (λ (r : Rule). r.quality ≤ t.class) same c.quality)))
 
 -- a rule that is passed
-pub passed : (b : BaseLine) (rules : List Rule) (k : ℕ) (rule : Rule) (old new : Progress) → IsBaseLine b → slice_get rules k ≡ Some rule → IsPassed (record { base = b; number = k + 1; rule = rule }) old new
+passed : (b : BaseLine) (rules : List Rule) (k : ℕ) (rule : Rule) (old new : Progress) → IsBaseLine b → slice_get rules k ≡ Some rule → IsPassed (record { base = b; number = k + 1; rule = rule }) old new
     → IsLeastSoFar b rules k old.best → IsLeastSoFar b rules (k + 1) new.best
 passed b rules k rule old new line is p so_far = record { found = kept new.best p.advance.from; least = λ t on few c. by t on c (before_or_last t.rule k few) }
   where
@@ -118,9 +122,40 @@ passed b rules k rule old new line is p so_far = record { found = kept new.best 
     by t on c (inr e) =
         let same : t.text ≡ rule = text_at rules t.rule k t.text rule e on.is_rule is in
         let those : IsPassed (record { base = b; number = t.rule; rule = t.text }) old new = subst (λ (n : ℕ). IsPassed (record { base = b; number = n; rule = t.text }) old new) (sym e) (subst (λ (r : Rule). IsPassed (record { base = b; number = k + 1; rule = r }) old new) (sym same) p) in
-        let a = assigned b rules t line on c in
+        let a = assigned b rules t line on (allowed (state_at b) t c) (on_its_front (state_at b) t c) in
         subst (λ (u : Attempt). IsNoWorse new.best (Some (rank (state_at b) u))) a.same
         (those.least a.assignment a.counted a.fits (subst (IsCandidate (state_at b)) (sym a.same) c))
+
+-- ---- reasons, rule after rule
+pub so_far_none : (b : BaseLine) (rules : List Rule) (p : Progress) → p.best ≡ None → IsSoFar b rules 0 p
+so_far_none b rules p e = record {
+  least = subst (IsLeastSoFar b rules 0) (sym e) (none_so_far b rules);
+  excused = record { excused = λ none noting t on few a h. absurd (no_rule t.rule on.first few) };
+}
+  where
+    no_rule : (n : ℕ) → 1 ≤ n → n ≤ 0 → ⊥
+    no_rule n h k = omega (arith, h, k)
+
+skipped_excused : (b : BaseLine) (rules : List Rule) (k : ℕ) (rule : Rule) (p : Progress) → slice_get rules k ≡ Some rule → (IsLive rule → rule.quality ≤ b.class → ⊥) → AreExcusedSoFar b rules k p → AreExcusedSoFar b rules (k + 1) p
+skipped_excused b rules k rule p is never so_far = record { excused = λ none noting t on few a h. by none noting t on a h (before_or_last t.rule k few) }
+  where
+    by : p.best ≡ None → b.noting ≡ true → (t : Attempt) → IsOn b rules t → IsAllowed (state_at b) t → FitsFront (state_at b) t → (t.rule ≤ k) ⊎ (t.rule ≡ k + 1) → IsExcused (state_at b) p.notes.items t
+    by none noting t on a h (inl few) = so_far.excused none noting t on few a h
+    by none noting t on a h (inr e) =
+        let same : t.text ≡ rule = text_at rules t.rule k t.text rule e on.is_rule is in
+        absurd (never (subst IsLive same a.live) (subst (λ (n : ℕ). rule.quality ≤ n) on.class (subst (λ (r : Rule). r.quality ≤ t.class) same a.quality)))
+
+passed_excused : (b : BaseLine) (rules : List Rule) (k : ℕ) (rule : Rule) (old new : Progress) → IsBaseLine b → slice_get rules k ≡ Some rule → IsPassed (record { base = b; number = k + 1; rule = rule }) old new → AreExcusedSoFar b rules k old → AreExcusedSoFar b rules (k + 1) new
+passed_excused b rules k rule old new line is p so_far = record { excused = λ none noting t on few a h. by none noting t on a h (before_or_last t.rule k few) }
+  where
+    by : new.best ≡ None → b.noting ≡ true → (t : Attempt) → IsOn b rules t → IsAllowed (state_at b) t → FitsFront (state_at b) t → (t.rule ≤ k) ⊎ (t.rule ≡ k + 1) → IsExcused (state_at b) new.notes.items t
+    by none noting t on a h (inl few) = subst (λ (notes : List Note). IsExcused (state_at b) notes t) (sym p.advance.noted.1)
+        (excused_more (state_at b) old.notes.items p.advance.noted.0 t (so_far.excused (none_before new.best old.best p.advance.no_worse none) noting t on few a h))
+    by none noting t on a h (inr e) =
+        let same : t.text ≡ rule = text_at rules t.rule k t.text rule e on.is_rule is in
+        let those : IsPassed (record { base = b; number = t.rule; rule = t.text }) old new = subst (λ (n : ℕ). IsPassed (record { base = b; number = n; rule = t.text }) old new) (sym e) (subst (λ (r : Rule). IsPassed (record { base = b; number = k + 1; rule = r }) old new) (sym same) p) in
+        let s = assigned b rules t line on a h in
+        subst (IsExcused (state_at b) new.notes.items) s.same (those.excused s.assignment s.counted s.fits none noting (subst (IsAllowed (state_at b)) (sym s.same) a))
 
 -- the rule with a number from 1
 before_number : (n : ℕ) → 1 ≤ n → n - 1 + 1 ≡ n
@@ -129,16 +164,18 @@ before_number n h = omega (arith, h)
 rule_is : (rules : List Rule) (n : ℕ) (rule : Rule) → 1 ≤ n → n ≤ length rules → ((d : Rule) → slice_index_or rules (n - 1) d ≡ rule) → slice_get rules (n - 1) ≡ Some rule
 rule_is rules n rule h k is = slice_get-get_or rules (n - 1) rule (omega (arith, h, k)) ∙ ap Some (is rule)
 
-pub skipped_at : (b : BaseLine) (rules : List Rule) (n : ℕ) (rule : Rule) (best : Option Found) → 1 ≤ n → n ≤ length rules → ((d : Rule) → slice_index_or rules (n - 1) d ≡ rule) → (IsLive rule → rule.quality ≤ b.class → ⊥)
-    → IsLeastSoFar b rules (n - 1) best → IsLeastSoFar b rules n best
-skipped_at b rules n rule best h k is never so_far =
-    subst (λ (m : ℕ). IsLeastSoFar b rules m best) (before_number n h) (skipped b rules (n - 1) rule best (rule_is rules n rule h k is) never so_far)
+pub skipped_at : (b : BaseLine) (rules : List Rule) (n : ℕ) (rule : Rule) (p : Progress) → 1 ≤ n → n ≤ length rules → ((d : Rule) → slice_index_or rules (n - 1) d ≡ rule) → (IsLive rule → rule.quality ≤ b.class → ⊥)
+    → IsSoFar b rules (n - 1) p → IsSoFar b rules n p
+skipped_at b rules n rule p h k is never so_far =
+    let at = rule_is rules n rule h k is in
+    subst (λ (m : ℕ). IsSoFar b rules m p) (before_number n h) (record { least = skipped b rules (n - 1) rule p.best at never so_far.least; excused = skipped_excused b rules (n - 1) rule p at never so_far.excused })
 
 pub passed_at : (b : BaseLine) (rules : List Rule) (n : ℕ) (rule : Rule) (old new : Progress) → 1 ≤ n → n ≤ length rules → ((d : Rule) → slice_index_or rules (n - 1) d ≡ rule) → IsBaseLine b
-    → IsPassed (record { base = b; number = n; rule = rule }) old new → IsLeastSoFar b rules (n - 1) old.best → IsLeastSoFar b rules n new.best
+    → IsPassed (record { base = b; number = n; rule = rule }) old new → IsSoFar b rules (n - 1) old → IsSoFar b rules n new
 passed_at b rules n rule old new h k is line p so_far =
-    subst (λ (m : ℕ). IsLeastSoFar b rules m new.best) (before_number n h)
-    (passed b rules (n - 1) rule old new line (rule_is rules n rule h k is) (subst (λ (m : ℕ). IsPassed (record { base = b; number = m; rule = rule }) old new) (sym (before_number n h)) p) so_far)
+    let at = rule_is rules n rule h k is in
+    let here = subst (λ (m : ℕ). IsPassed (record { base = b; number = m; rule = rule }) old new) (sym (before_number n h)) p in
+    subst (λ (m : ℕ). IsSoFar b rules m new) (before_number n h) (record { least = passed b rules (n - 1) rule old new line at here so_far.least; excused = passed_excused b rules (n - 1) rule old new line at here so_far.excused })
 
 -- a rule that has a state is not live
 pub inert_never : (r : Rule) (i : Inert) → HasState r (Some i) → IsLive r → ⊥
@@ -244,7 +281,28 @@ some_may class k count rules rule whole within is live quality = record {
   quality = quality;
 }
 
+-- and the line is refused, whatever the notes
+pub refused_idle : (sizes : SizeField) (st : State) (rules : List Rule) (line class : ℕ) (notes : List Note) → NoneMayApply class rules (length rules) → IsRefusedBy sizes st rules line class notes
+refused_idle sizes st rules line class notes idle = record {
+  excused = λ t of a h.
+      let last = all_rules rules t t.text of.numbered of.is_rule in
+      absurd (idle (t.rule - 1) (omega (arith, of.numbered, last)) t.text of.is_rule a.live (subst (λ (n : ℕ). t.text.quality ≤ n) of.same_class a.quality));
+}
+
+-- where all were looked at, none may apply
+pub none_may_all : (class k count : ℕ) (rules : List Rule) → count ≡ length rules → count ≤ k → NoneMayApply class rules k → NoneMayApply class rules (length rules)
+none_may_all class k count rules whole ended idle = λ number few. idle number (omega (arith, few, whole, ended))
+
 -- ---- over all rules
+-- a line by whose base nothing is found is refused by the notes
+pub refused_found : (sizes : SizeField) (f : FrontState) (rules : List Rule) (line class : ℕ) (b : BaseLine) (p : Progress) → IsBaseOf sizes f line class b → b.noting ≡ true → p.best ≡ None → IsSoFar b rules (length rules) p → IsRefusedBy sizes (state_of f) rules line class p.notes.items
+refused_found sizes f rules line class b p is noting none so_far = record {
+  excused = λ t of a h.
+      let on = on_base sizes f rules line class b t is of in
+      subst (λ (g : FrontState). IsExcused (state_of g) p.notes.items t) is.front (so_far.excused.excused none noting t on (all_rules rules t t.text on.first on.is_rule)
+      (subst (λ (g : FrontState). IsAllowed (state_of g) t) (sym is.front) a) (subst (λ (g : FrontState). FitsFront (state_of g) t) (sym is.front) h));
+}
+
 pub none_found : (sizes : SizeField) (f : FrontState) (rules : List Rule) (line class : ℕ) (b : BaseLine) → IsBaseOf sizes f line class b → IsLeastSoFar b rules (length rules) None → HasNone sizes (state_of f) rules line class
 none_found sizes f rules line class b is so_far = record {
   none = λ t of c.

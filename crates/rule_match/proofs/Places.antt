@@ -23,7 +23,7 @@ use Rattle.state_law.proofs.Refused.{refuted}
 use Rattle.rule_match.specs.declared.progress.Note.{Note}
 use Rattle.rule_match.specs.Candidate.{Attempt, IsCandidate, made, zone, mapped_pair, IsFrontPoint, IsFrontPair, IsMappedLine}
 use Rattle.rule_match.specs.Least.{IsOf}
-use Rattle.rule_match.specs.Refused.{places_of, IsAllowed, IsRefusedBy}
+use Rattle.rule_match.specs.Refused.{places_of, IsAllowed, FitsFront, IsRefusedBy}
 
 corner_contained : (p : Point) (ps : List Point) → IsCorner p ps → Contains ps p
 corner_contained p [] c = absurd c
@@ -38,7 +38,7 @@ number_corner pts n ns r = at ns r.0 r.1 r.2
     at (m ∷ ns) zero w e = inl (ap (point_at pts) e)
     at (m ∷ ns) (suc k) w e = inr (at ns k (omega (arith, w)) e)
 
-edge_in : {X : Type 0} (f : X → Edge) (x : X) (xs : List X) → Contains xs x → IsIn (f x) (map f xs)
+pub edge_in : {X : Type 0} (f : X → Edge) (x : X) (xs : List X) → Contains xs x → IsIn (f x) (map f xs)
 edge_in {X = X} f x xs r = at xs r.0 r.1 r.2
   where
     at : (xs : List X) (k : ℕ) → k < length xs → slice_index_or xs k x ≡ x → IsIn (f x) (map f xs)
@@ -87,6 +87,9 @@ module _ (st : State) (t : Attempt) where
     zone_convex = c.zone_convex;
   }
 
+  pub on_its_front : IsCandidate st t → FitsFront st t
+  on_its_front c = record { on_front = c.on_front; at_lines = c.at_lines }
+
   point_on : (n : ℕ) → IsFrontPoint st n → saved.IsFrontPoint (front_edges st.points st.front) (point_at st.points n)
   point_on n a = end_in (point_at st.points n) (edge_of a.1) (front_edges st.points st.front) (edge_in edge_of a.1 st.front (a.0, a.2, a.3)) (of a.4)
     where
@@ -131,4 +134,4 @@ module _ (st : State) (t : Attempt) where
 -- a refused pair has no candidate
 pub refused_none : (sizes : SizeField) (st : State) (rules : List Rule) (line class : ℕ) (notes : List Note) → refusal.IsFront (front_edges st.points st.front) → IsRefusedBy sizes st rules line class notes →
     (t : Attempt) → IsOf sizes st rules line class t → ¬ (IsCandidate st t)
-refused_none sizes st rules line class notes f r t o c = refuted (λ a. Unit {0}) st.points (front_edges st.points st.front) _ (places_of st t) f (r.excused t o (allowed st t c) (fits st t c)) (by_places st t c)
+refused_none sizes st rules line class notes f r t o c = refuted (λ a. Unit {0}) st.points (front_edges st.points st.front) _ (places_of st t) f (r.excused t o (allowed st t c) (on_its_front st t c)) (by_places st t c)

@@ -136,7 +136,7 @@ module _ (t : Tried) where
         )
 
     -- ---- the rule's numbers
-    two_points : (1 < length t.rule.points)
+    pub two_points : (1 < length t.rule.points)
     two_points = by t.rule.lines i.rule.base i.rule.lines.1
       where
         by : (ls : List MapLine) → BeginsAtBase ls → AllByRecursion (IsMapLine (length t.rule.points)) ls → 1 < length t.rule.points

@@ -21,7 +21,8 @@ use Rattle.rule_reader.specs.declared.rule.MapLine.{MapLine}
 use Rattle.rule_maps.specs.Frame.{IsInRange}
 use Rattle.state_law.specs.State.{State, point_at, corners_of}
 use Rattle.rule_match.specs.declared.near.NearPoint.{NearPoint}
-use Rattle.rule_match.specs.Candidate.{Attempt, IsCandidate, mapped, local4, locals, nth, mapped_pair, IsTolerated, AreTolerated, IsLineTolerated, IsFrontPoint, IsFrontPair, rule_place}
+use Rattle.rule_match.specs.Candidate.{Attempt, mapped, local4, locals, nth, mapped_pair, IsTolerated, AreTolerated, IsLineTolerated, IsFrontPoint, IsFrontPair, rule_place}
+use Rattle.rule_match.specs.Refused.{IsAllowed, FitsFront}
 use Rattle.rule_match.specs.Fitting.{both_known, known, is_met, are_different, fits_so_far}
 use Rattle.rule_match.specs.Trying.{Setting, near_at, does_go, is_tolerated, is_end_right, point_test, point_tie, point_ties, line_test, line_tie, turn_tie, other_ties, ties}
 use Rattle.rule_match.specs.Around.{IsAround, setting_of, StandFor, IsTried}
@@ -185,13 +186,13 @@ module _ (st : State) (t : Attempt) (near : List NearPoint) (lines : List (ℕ �
     turns_met (n ∷ ns) a = pair (is_met b (turn_tie s n)) (list_all (is_met b) (map (turn_tie s) ns)) (turn_met n a.0) (turns_met ns a.1)
 
     -- each test is met
-    pub all_met : IsCandidate st t → fits_so_far (ties s) b ≡ true
-    all_met c = pair (are_different b) (list_all (is_met b) (ties s)) (different near b t.points r c.different)
+    pub all_met : IsAllowed st t → FitsFront st t → fits_so_far (ties s) b ≡ true
+    all_met c h = pair (are_different b) (list_all (is_met b) (ties s)) (different near b t.points r c.different)
         (sym (all_first b (point_ties s 0 t.text.points) (other_ties s) true (points_met c.at_start c.at_end 0 (locals st t) t.text.points c.points_tolerated (λ j n e. ap (λ (z : ℕ). slice_index_or (locals st t) z origin) (omega (arith, e))))
-        (all_first b (map (line_tie s) t.text.lines) (map (turn_tie s) t.text.turns) true (lines_met t.text.lines c.in_range c.at_lines c.lines_tolerated) (sym (turns_met t.text.turns c.turned)))))
+        (all_first b (map (line_tie s) t.text.lines) (map (turn_tie s) t.text.turns) true (lines_met t.text.lines c.in_range h.at_lines c.lines_tolerated) (sym (turns_met t.text.turns c.turned)))))
 
--- near points stand for a candidate's points and meet each test
-pub tried : (st : State) (t : Attempt) (near : List NearPoint) (lines : List (ℕ × ℕ)) → IsAround st t.frame near lines → IsCandidate st t → IsTried (setting_of t near lines) t.points
-tried st t near lines around c =
-    let k : (b : List ℕ) × StandFor near b t.points = assigned st t near lines around t.points c.on_front c.in_range in
-    record { assignment = k.0; stands = k.1; fits = all_met st t near lines around k.0 k.1 c }
+-- near points stand for the points of an allowed attempt that fits the front, and meet each test
+pub tried : (st : State) (t : Attempt) (near : List NearPoint) (lines : List (ℕ × ℕ)) → IsAround st t.frame near lines → IsAllowed st t → FitsFront st t → IsTried (setting_of t near lines) t.points
+tried st t near lines around a h =
+    let k : (b : List ℕ) × StandFor near b t.points = assigned st t near lines around t.points h.on_front a.in_range in
+    record { assignment = k.0; stands = k.1; fits = all_met st t near lines around k.0 k.1 a h }

@@ -1,11 +1,12 @@
 -- A front line tried at a class, and the attempts for which assignments of its near points stand.
 --
--- BaseLine     a front, a line of it with its frame and its surroundings, and a class
+-- BaseLine     a front, a line of it with its frame and its surroundings, a class, and whether the search notes why
+--              assignments fail
 -- IsBaseLine   the line is on the front, and these are its surroundings
 -- Tried        a rule tried on a base line
 -- HasFreeZone  the rule's zone is strictly convex and free
 -- attempt_of   the attempt for which an assignment of near points stands
-use Rattle.std.specs.Prelude.{ℕ, ◌≡◌, ◌≤◌, ◌++◌, true, List, length, map}
+use Rattle.std.specs.Prelude.{Bool, ℕ, ◌≡◌, ◌≤◌, ◌++◌, true, List, length, map}
 use Rattle.std.specs.List.{All, Contains}
 use Rattle.grid_geom.specs.Bounds.{IsOnGrid}
 use Rattle.rule_reader.specs.declared.rule.Rule.{Rule}
@@ -33,6 +34,7 @@ pub record BaseLine : Type 0 where
   pub frame : LocalFrame
   pub near : List NearPoint
   pub lines : List (ℕ × ℕ)
+  pub noting : Bool
 
 pub record IsBaseLine (b : BaseLine) : Type 0 where
   pub front : IsFrontState b.front

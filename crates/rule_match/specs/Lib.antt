@@ -16,6 +16,10 @@ pub mod Trying
 pub mod Around
 -- Base: a front line tried at a class, and the attempts for which assignments of near points stand.
 pub mod Base
+-- Noted: what a search notes of assignments that fail.
+pub mod Noted
+-- MoreNotes: with more notes a reason stays a reason.
+pub mod MoreNotes
 -- Idle: rules of which none can apply.
 pub mod Idle
 -- Passed: what a search over the rules owes.

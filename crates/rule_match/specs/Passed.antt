@@ -1,11 +1,13 @@
 -- What a search over the rules owes: of one rule on a base line, and of all rules so far.
 --
 -- IsPassed       a rule is passed: what is found isn't after any of its candidates on the base
---                line, and is no other
+--                line, and is no other; where nothing is found its assignments are excused
 -- NoneMayApply   none of the first so many rules is live and of quality at most the class
 -- IsOn           an attempt on the base line by a rule of the list
 -- IsFind         what is found is such an attempt, and a candidate
 -- IsLeastSoFar   what is found is the least of the candidates by the first so many rules
+-- AreExcusedSoFar  where nothing is found, the notes hold the reasons of all attempts by these rules
+-- IsSoFar        both
 use Rattle.std.specs.Prelude.{◌≡◌, ℕ, ◌-◌, ◌≤◌, ◌<◌, List, length, true, Option, None, Some, slice_get}
 use Rattle.rule_reader.specs.declared.rule.Rule.{Rule}
 use Rattle.rule_maps.specs.Inert.{IsLive}
@@ -19,6 +21,8 @@ use Rattle.rule_match.specs.Least.{rank}
 use Rattle.rule_match.specs.Walk.{IsAdvance}
 use Rattle.rule_match.specs.Fitting.{fits_so_far}
 use Rattle.rule_match.specs.Trying.{ties}
+use Rattle.rule_match.specs.Refused.{IsAllowed, FitsFront, IsExcused}
+use Rattle.rule_match.specs.Noted.{HasExcuse}
 use Rattle.rule_match.specs.Base.{BaseLine, Tried, attempt_of, setting_at}
 
 -- the state of the front of a base line
@@ -39,6 +43,8 @@ pub record IsPassed (t : Tried) (old new : Progress) : Type 0 where
   pub least : (b : List ℕ) → length b ≡ length t.rule.points
       → fits_so_far (ties (setting_at t)) b ≡ true → Holds t b
       → IsNoWorse new.best (Some (rank_of t b))
+  pub excused : (b : List ℕ) → length b ≡ length t.rule.points
+      → fits_so_far (ties (setting_at t)) b ≡ true → new.best ≡ None → HasExcuse t new.notes.items b
 
 -- none of the first k rules is live and of quality at most the class
 abbrev pub NoneMayApply : ℕ → List Rule → ℕ → Type 0
@@ -70,3 +76,13 @@ pub record IsLeastSoFar (b : BaseLine) (rules : List Rule) (k : ℕ) (best : Opt
   pub found : IsFindIfAny b rules best
   pub least : (t : Attempt) → IsOn b rules t → t.rule ≤ k → IsCandidate (state_at b) t
       → IsNoWorse best (Some (rank (state_at b) t))
+
+-- where nothing is found and notes are made, they hold the reason of each allowed attempt on the base line by the first k
+-- rules that fits the front
+pub record AreExcusedSoFar (b : BaseLine) (rules : List Rule) (k : ℕ) (p : Progress) : Type 0 where
+  pub excused : p.best ≡ None → b.noting ≡ true → (t : Attempt) → IsOn b rules t → t.rule ≤ k
+      → IsAllowed (state_at b) t → FitsFront (state_at b) t → IsExcused (state_at b) p.notes.items t
+
+pub record IsSoFar (b : BaseLine) (rules : List Rule) (k : ℕ) (p : Progress) : Type 0 where
+  pub least : IsLeastSoFar b rules k p.best
+  pub excused : AreExcusedSoFar b rules k p

@@ -2,6 +2,8 @@
 --
 -- places_of        an attempt by its places
 -- IsAllowed        the sentences of a candidate that look at places alone
+-- FitsFront        its mapped points are front points, its mapped lines front lines
+-- has_note         a front line is noted beside one of some points
 -- IsExcused        the attempt is no candidate, for a reason that the notes hold
 -- IsRefusedBy      each allowed attempt that fits the front is excused
 -- IsRefusedAgain   the same of those that map a fresh point
@@ -20,7 +22,7 @@ use Rattle.rule_maps.specs.Frame.{IsInRange}
 use Rattle.state_law.specs.State.{State, point_at, pair_edge, front_edges}
 use Rattle.state_law.specs.Refusal as refusal
 use Rattle.rule_match.specs.declared.progress.Note.{Note}
-use Rattle.rule_match.specs.Candidate.{Attempt, mapped, locals, made, zone, elements, nth, mapped_pair, AreTolerated, IsLineTolerated}
+use Rattle.rule_match.specs.Candidate.{Attempt, mapped, locals, made, zone, elements, nth, mapped_pair, AreTolerated, IsFrontPair, IsFrontPoint, IsLineTolerated}
 use Rattle.rule_match.specs.Least.{IsOf}
 
 -- the attempt by its places
@@ -52,10 +54,18 @@ pub record IsAllowed (st : State) (t : Attempt) : Type 0 where
   pub zone_on_grid : AllByRecursion IsOnGrid (zone st t)
   pub zone_convex : IsStrictlyConvex (zone st t)
 
--- the line is noted beside one of the points
+-- the mapped points are front points, the mapped lines front lines
+pub record FitsFront (st : State) (t : Attempt) : Type 0 where
+  pub on_front : AllByRecursion (IsFrontPoint st) t.points
+  pub at_lines : AllByRecursion (λ l. IsFrontPair st (mapped_pair t.points l)) t.text.lines
+
+-- the line with the number is noted beside one of the points
+abbrev pub has_note : List Note → List ℕ → ℕ → Bool
+has_note notes points number = list_any
+    (λ note. nat_eq note.line number && list_any (nat_eq note.point) points) notes
+
 abbrev pub is_noted : List Note → List ℕ → ℕ × ℕ × ℕ → Bool
-is_noted notes points line = list_any
-    (λ note. nat_eq note.line line.0 && list_any (nat_eq note.point) points) notes
+is_noted notes points line = has_note notes points line.0
 
 -- the front lines that are noted beside a point that the attempt maps
 abbrev pub witnesses : State → List Note → Attempt → List Edge
@@ -68,11 +78,10 @@ IsExcused st notes t = refusal.HasReason st.points (front_edges st.points st.fro
 
 -- each allowed attempt that fits the front has its reason
 pub record IsRefusedBy (sizes : SizeField) (st : State) (rules : List Rule) (line class : ℕ) (notes : List Note) : Type 0 where
-  pub excused : (t : Attempt) → IsOf sizes st rules line class t → IsAllowed st t
-      → refusal.DoesFit (front_edges st.points st.front) (places_of st t) → IsExcused st notes t
+  pub excused : (t : Attempt) → IsOf sizes st rules line class t → IsAllowed st t → FitsFront st t
+      → IsExcused st notes t
 
 -- the same of the attempts that map one of the fresh points
 pub record IsRefusedAgain (sizes : SizeField) (st : State) (rules : List Rule) (line class : ℕ) (fresh : List ℕ) (notes : List Note) : Type 0 where
-  pub excused : (t : Attempt) → IsOf sizes st rules line class t → IsAllowed st t
-      → refusal.DoesFit (front_edges st.points st.front) (places_of st t) →
-      Any (λ p. Contains fresh p) t.points → IsExcused st notes t
+  pub excused : (t : Attempt) → IsOf sizes st rules line class t → IsAllowed st t → FitsFront st t
+      → Any (λ p. Contains fresh p) t.points → IsExcused st notes t

@@ -32,6 +32,7 @@ pub(crate) struct Base<'a> {
     class: u32,
     frame: Frame,
     around: Surroundings,
+    noting: bool,
 }
 
 impl<'a> Model for Base<'a> {
@@ -46,6 +47,7 @@ impl<'a> Model for Base<'a> {
       frame = b.frame;
       near = b.around.near.items;
       lines = b.around.lines.items;
+      noting = b.noting;
     } };
 
     ghost invariant = { λ b. IsBaseLine
@@ -56,6 +58,7 @@ impl<'a> Model for Base<'a> {
           frame = b.frame;
           near = b.around.near.items;
           lines = b.around.lines.items;
+          noting = b.noting;
         }) };
 }
 
@@ -94,18 +97,21 @@ pub(crate) fn frame_of(front: &Front, sizes: &Sizes, from: u64, to: u64) -> Fram
 }
 
 impl<'a> Base<'a> {
-    /// The front line with the number, at a class.
+    /// The front line with the number, at a class; and whether the search is to note why assignments
+    /// fail.
     pub(crate) fn new(
         alloc: Global,
         front: &'a Front,
         sizes: &Sizes,
         line: u64,
         class: u32,
+        noting: bool,
     ) -> Result<Base<'a>, AllocError>
         requires on_front { is_some (line_at front.now.lines line) ≡ true }
         requires class_least { 1 ≤ class }
         requires class_greatest { class ≤ 16 }
-        ensures { IfOk result (λ b. IsBaseOf sizes.now front.now line class b) }
+        ensures base { IfOk result (λ b. IsBaseOf sizes.now front.now line class b) }
+        ensures noting { IfOk result (λ b. b.noting ≡ noting) }
     {
         let _points = front.points();
         let (from, to) = front.line(line).unwrap();
@@ -120,6 +126,7 @@ impl<'a> Base<'a> {
             class,
             frame,
             around,
+            noting,
         })
     }
 
@@ -165,6 +172,13 @@ impl<'a> Base<'a> {
         ensures { result ≡ self.now.class }
     {
         self.class
+    }
+
+    /// Whether the search notes why assignments fail.
+    pub(crate) fn is_noting(&self) -> bool
+        ensures { result ≡ self.now.noting }
+    {
+        self.noting
     }
 
     /// The near points.

@@ -1,7 +1,7 @@
 //! One rule tried on a base line of a front: its points are tested as soon as they are known, and whole
 //! assignments by their new points, their zone and their elements.
 
-ghost use Rattle.std.specs.Prelude.{◌≡◌, ◌≤◌, ◌+◌, ◌↔◌, ◌++◌, ℕ, List, length, map, true, false, IfOk, IsTrue, IfSome, IfNone};
+ghost use Rattle.std.specs.Prelude.{◌≡◌, ◌≤◌, ◌+◌, ◌↔◌, ◌++◌, ℕ, List, length, map, true, false, IfOk, OnOk, IsTrue, IfSome, IfNone};
 ghost use Rattle.std.specs.List.{All};
 ghost use Rattle.rule_maps.specs.Frame.{IsInRange};
 ghost use Rattle.rule_maps.specs.Inert.{IsLive};
@@ -14,7 +14,15 @@ ghost use Rattle.rule_match.specs.Candidate.{mapped as mapped_at};
 ghost use Rattle.rule_match.specs.Fitting.{fits_so_far};
 ghost use Rattle.rule_match.specs.Trying.{ties, starts};
 ghost use Rattle.rule_match.specs.Least.{rank, worst};
-ghost use Rattle.rule_match.specs.Base.{IsTrying, HasFreeZone, HasNewPoints, elements_by, numbers_at, attempt_of, setting_at};
+ghost use Rattle.rule_match.specs.Walk.{BeginsWith};
+ghost use Rattle.rule_match.specs.Noted.{HasExcuse, IsWayNoted};
+ghost use Rattle.free_zone.specs.Zone.{IsZone, zone_of};
+ghost use Rattle.free_zone.specs.InTheWay.{HasNoLine};
+ghost use Rattle.free_zone.specs.InTheWay.{mapping as in_way};
+ghost use Rattle.rule_maps.specs.Places.{mapping};
+ghost use Rattle.rule_match.specs.declared.progress.Note.{Note as Noted};
+ghost use Rattle.rule_match.specs.MoreNotes.{more_excuses};
+ghost use Rattle.rule_match.specs.Base.{IsTrying, HasNewPoints, elements_by, numbers_at, attempt_of, setting_at};
 
 use super::base::Base;
 use super::few_points::FewPoints;
@@ -22,6 +30,7 @@ use super::found::Found;
 use super::making::{
     all_numbers, are_different, are_new, made_points, numbered_elements, worst_badness,
 };
+use super::noting::{note, note_refusal};
 use super::progress::Note;
 use super::trying::Trying;
 use super::walk::Trial;
@@ -141,16 +150,40 @@ impl<'a> FrontTrial<'a> {
         self.base().places(alloc, chosen)
     }
 
-    /// Whether the zone is on the grid, strictly convex and free.
-    fn has_free_zone(&self, alloc: Global, mapped: &[Point], numbers: &[u64]) -> bool
+    /// The zone, where it is on the grid and strictly convex.
+    fn zone(&self, alloc: Global, mapped: &[Point]) -> Option<Zone>
         requires count { length mapped.now ≡ length self.now.rule.points }
         requires range { All (IsInRange self.now.base.frame) mapped.now }
-        ensures { IsTrue result ↔ HasFreeZone self.now mapped.now numbers.now }
+        ensures zone { IfSome result (λ z. z ≡
+            zone_of (mapping self.now.base.frame self.now.rule mapped.now) self.now.base.class) }
+        ensures is_zone { IfSome result IsZone }
+        ensures none { IfNone result (¬ (IsZone
+            (zone_of (mapping self.now.base.frame self.now.rule mapped.now) self.now.base.class))) }
     {
-        let (base, rule) = (self.base(), self.rule());
-        match Zone::new(alloc, rule, base.frame(), mapped, base.class()) {
-            None => false,
-            Some(zone) => zone.blocked(base.front(), rule, numbers).is_none(),
+        let base = self.base();
+        Zone::new(alloc, self.rule(), base.frame(), mapped, base.class())
+    }
+
+    /// Whether no front line is in the way of the zone. Else the least that is is noted.
+    fn has_free_zone(
+        &self,
+        zone: &Zone,
+        numbers: &[u64],
+        notes: &mut Vec<Note>,
+    ) -> Result<bool, AllocError>
+        requires { 1 ≤ length numbers.now }
+        ensures kept { OnOk result (BeginsWith notes.new.items notes.old.items) }
+        ensures free { IfOk result (λ yes. yes ≡ true →
+            HasNoLine zone.now (in_way self.now.base.front self.now.rule numbers.now)) }
+        ensures in_way { IfOk result (λ yes. yes ≡ false →
+            IsWayNoted self.now zone.now numbers.now notes.new.items) }
+    {
+        match zone.line_in_way(self.front(), self.rule(), numbers) {
+            None => Ok(true),
+            Some(line) => {
+                note(self.base(), line, numbers, notes)?;
+                Ok(false)
+            }
         }
     }
 
@@ -163,6 +196,8 @@ impl<'a> FrontTrial<'a> {
         ensures made { IfSome result (λ v. HasNewPoints self.now chosen.now v) }
         ensures none { IfNone result
             (IsCandidate (state_of self.now.base.front) (attempt_of self.now chosen.now) → ⊥) }
+        ensures excused { IfNone result
+            ((notes : List Noted) → HasExcuse self.now notes chosen.now) }
     {
         let made = made_points(alloc, self.rule(), self.base().frame(), mapped)?;
         if are_new(self.front(), made.as_slice()) && are_different(made.as_slice()) {
@@ -189,32 +224,37 @@ impl<'a> FrontTrial<'a> {
         )
     }
 
-    /// Whether the elements may be glued one after another.
+    /// Whether the elements may be glued one after another. Else the front lines that refuse them are
+    /// noted.
     fn may_glue(
         &self,
         alloc: Global,
         chosen: &[usize],
         numbers: &[u64],
         placed: &[Point],
+        notes: &mut Vec<Note>,
     ) -> Result<bool, AllocError>
         requires complete { length chosen.now ≡ length self.now.rule.points }
         requires fits { fits_so_far (ties (setting_at self.now)) chosen.now ≡ true }
         requires numbers { numbers.now ≡ numbers_at self.now.base.near chosen.now }
         requires placed { HasNewPoints self.now chosen.now placed.now }
-        ensures { IfOk result (λ yes. IsTrue yes ↔
+        ensures kept { OnOk result (BeginsWith notes.new.items notes.old.items) }
+        ensures may { IfOk result (λ yes. IsTrue yes ↔
             MayAllBeGlued
             (elements (state_of self.now.base.front) (attempt_of self.now chosen.now))
             (front_edges self.now.base.front.points self.now.base.front.lines)) }
+        ensures excused { IfOk result (λ yes. yes ≡ false →
+            HasExcuse self.now notes.new.items chosen.now) }
     {
         let elements = self.elements(alloc, numbers, placed)?;
         match admit(alloc, self.front(), placed, elements.as_slice()) {
             Ok(_) => Ok(true),
             Err(refusal) => {
                 if is_memory(&refusal) {
-                    Err(AllocError)
-                } else {
-                    Ok(false)
+                    return Err(AllocError);
                 }
+                note_refusal(alloc, self.base(), &refusal, numbers, notes)?;
+                Ok(false)
             }
         }
     }
@@ -227,7 +267,7 @@ impl<'a> Trial for FrontTrial<'a> {
 
     ghost holds = { λ t b. IsCandidate (state_of t.base.front) (attempt_of t b) };
 
-    ghost reasons = { λ t notes b. Unit {0} };
+    ghost reasons = { HasExcuse };
 
     ghost rank = { λ t b. rank (state_of t.base.front) (attempt_of t b) };
 
@@ -255,20 +295,23 @@ impl<'a> Trial for FrontTrial<'a> {
         &self,
         alloc: Global,
         chosen: &[usize],
-        _notes: &mut Vec<Note>,
+        notes: &mut Vec<Note>,
     ) -> Result<bool, AllocError> {
         let mapped = self.mapped(alloc, chosen);
         let Some(made) = self.made(alloc, chosen, mapped.as_slice()) else {
             return Ok(false);
         };
+        let Some(zone) = self.zone(alloc, mapped.as_slice()) else {
+            return Ok(false);
+        };
         let numbers = self.base().numbers(alloc, chosen);
-        if !self.has_free_zone(alloc, mapped.as_slice(), numbers.as_slice()) {
+        if !self.has_free_zone(&zone, numbers.as_slice(), notes)? {
             return Ok(false);
         }
-        self.may_glue(alloc, chosen, numbers.as_slice(), made.as_slice())
+        self.may_glue(alloc, chosen, numbers.as_slice(), made.as_slice(), notes)
     }
 
     ghost start = { λ t. starts (setting_at t) };
 
-    ghost more = { λ t notes more b h. tt };
+    ghost more = { more_excuses };
 }

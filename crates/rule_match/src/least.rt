@@ -5,7 +5,7 @@
 //! 3. Rule after rule is passed: what is found is the least of the candidates by the rules so far, so a
 //!    find that comes after it is never judged.
 
-ghost use Rattle.std.specs.Prelude.{◌≡◌, ◌+◌, ◌-◌, ◌≤◌, length, true, false, IsSome, IfOk, IfSome, IfNone, OnOk};
+ghost use Rattle.std.specs.Prelude.{◌≡◌, ◌+◌, ◌-◌, ◌≤◌, length, true, false, IsSome, None, IfOk, IfSome, IfNone, OnOk};
 ghost use Rattle.std.specs.List.{AllByRecursion};
 ghost use Rattle.state_law.specs.State.{IsListed, corners_of};
 ghost use Rattle.rule_maps.specs.Inert.{IsLive};
@@ -15,14 +15,16 @@ ghost use Rattle.rule_match.specs.Applied.{application};
 ghost use Rattle.rule_match.specs.Least.{HasNone, rank};
 ghost use Rattle.rule_match.specs.Best.{IsBest};
 ghost use Rattle.rule_match.specs.Idle.{NoneApplies, SomeMayApply};
-ghost use Rattle.rule_match.specs.Passed.{IsOn, IsFind, IsLeastSoFar, state_at};
+ghost use Rattle.rule_match.specs.Passed.{IsOn, IsFind, IsSoFar, NoneMayApply, state_at};
+ghost use Rattle.rule_match.specs.Refused.{IsRefusedBy};
+ghost use Rattle.rule_match.specs.Walk.{BeginsWith};
 
 use super::application::Application;
 use super::base::Base;
 use super::few_points::FewPoints;
 use super::found::Found;
 use super::making::{all_numbers, made_points, numbered_elements};
-use super::progress::Progress;
+use super::progress::{Note, Progress};
 use super::rule_search::try_rule;
 use front_chain::Front;
 use grid_geom::Points;
@@ -30,6 +32,7 @@ use list_of::List;
 use rule_maps::{Compiled, RuleSet};
 use size_field::Sizes;
 use std::alloc::{AllocError, Global};
+use std::mem;
 use std::sync::ledger::Ledger;
 use steps::Steps;
 
@@ -47,6 +50,7 @@ fn may_apply(rule: &Compiled<'_>, class: u32) -> bool
 pub fn some_may_apply(rules: &RuleSet<'_>, class: u32) -> bool
     ensures some { result ≡ true → SomeMayApply class rules.now }
     ensures none { result ≡ false → NoneApplies class rules.now }
+    ensures none_may { result ≡ false → NoneMayApply class rules.now (length rules.now) }
 {
     for position in 0..rules.count() {
         if may_apply(rules.get(position + 1), class) {
@@ -66,8 +70,9 @@ fn pass_rule(
 ) -> Result<(), AllocError>
     requires first { 1 ≤ number }
     requires last { number ≤ length rules.now }
-    requires so_far { IsLeastSoFar base.now rules.now (number - 1) progress.old.best }
-    ensures { OnOk result (IsLeastSoFar base.now rules.now number progress.new.best) }
+    requires so_far { IsSoFar base.now rules.now (number - 1) progress.old }
+    ensures so_far { OnOk result (IsSoFar base.now rules.now number progress.new) }
+    ensures kept { OnOk result (BeginsWith progress.new.notes.items progress.old.notes.items) }
 {
     let _near = base.near();
     let rule = rules.get(number);
@@ -77,22 +82,21 @@ fn pass_rule(
     Ok(())
 }
 
-/// What is found over all rules.
-fn least_found(
+/// Passes all rules.
+fn pass_rules(
     alloc: Global,
     base: &Base<'_>,
     rules: &RuleSet<'_>,
-) -> Result<Option<Found>, AllocError>
-    ensures { IfOk result (IsLeastSoFar base.now rules.now (length rules.now)) }
+    progress: &mut Progress,
+) -> Result<(), AllocError>
+    requires { progress.old.best ≡ None }
+    ensures so_far { OnOk result (IsSoFar base.now rules.now (length rules.now) progress.new) }
+    ensures kept { OnOk result (BeginsWith progress.new.notes.items progress.old.notes.items) }
 {
-    let mut progress = Progress {
-        best: None,
-        notes: Vec::new(alloc),
-    };
     for position in 0..rules.count() {
-        pass_rule(alloc, base, rules, position + 1, &mut progress)?;
+        pass_rule(alloc, base, rules, position + 1, progress)?;
     }
-    Ok(progress.best)
+    Ok(())
 }
 
 /// The places of the front's points with these numbers.
@@ -137,6 +141,42 @@ fn application_of(
     })
 }
 
+/// The application of the least candidate of the line at the class. Where there is none, the reasons
+/// are noted if they are asked for.
+fn search_line(
+    alloc: Global,
+    front: &Front,
+    sizes: &Sizes,
+    rules: &RuleSet<'_>,
+    line: u64,
+    class: u32,
+    noting: bool,
+    progress: &mut Progress,
+) -> Result<Option<Application>, AllocError>
+    requires on_front { IsSome (line_at front.now.lines line) }
+    requires class_least { 1 ≤ class }
+    requires class_greatest { class ≤ 16 }
+    requires nothing { progress.old.best ≡ None }
+    ensures least { IfOk result (λ found.
+        IfSome found (IsBest sizes.now (state_of front.now) rules.now line class)) }
+    ensures none { IfOk result (λ found.
+        IfNone found (HasNone sizes.now (state_of front.now) rules.now line class)) }
+    ensures kept { OnOk result (BeginsWith progress.new.notes.items progress.old.notes.items) }
+    ensures noted { noting ≡ true → IfOk result (λ found. IfNone found
+        (IsRefusedBy sizes.now (state_of front.now) rules.now line class
+        progress.new.notes.items)) }
+{
+    if !some_may_apply(rules, class) {
+        return Ok(None);
+    }
+    let base = Base::new(alloc, front, sizes, line, class, noting)?;
+    pass_rules(alloc, &base, rules, progress)?;
+    match &progress.best {
+        None => Ok(None),
+        Some(found) => Ok(Some(application_of(alloc, &base, rules, found)?)),
+    }
+}
+
 /// The application of the least candidate of the line at the class; None exactly where there is none.
 /// Each call is one step.
 ///
@@ -160,12 +200,55 @@ pub fn best<L: Ledger>(
     ensures counted { steps.new ≡ steps.old + 1 }
 {
     steps.count();
-    if !some_may_apply(rules, class) {
-        return Ok(None);
-    }
-    let base = Base::new(alloc, front, sizes, line, class)?;
-    match least_found(alloc, &base, rules)? {
-        None => Ok(None),
-        Some(found) => Ok(Some(application_of(alloc, &base, rules, &found)?)),
-    }
+    let mut progress = Progress {
+        best: None,
+        notes: Vec::new(alloc),
+    };
+    search_line(
+        alloc,
+        front,
+        sizes,
+        rules,
+        line,
+        class,
+        false,
+        &mut progress,
+    )
+}
+
+/// As `best`; and where there is no candidate the notes hold the reasons, so that the line is refused at
+/// the class until a front line that is noted leaves or a front point comes near. What is noted where
+/// something is found is of no use.
+///
+/// Errors: want of memory.
+pub fn best_noted<L: Ledger>(
+    alloc: Global,
+    front: &Front,
+    sizes: &Sizes,
+    rules: &RuleSet<'_>,
+    line: u64,
+    class: u32,
+    steps: &mut Steps<L>,
+    notes: &mut Vec<Note>,
+) -> Result<Option<Application>, AllocError>
+    requires on_front { IsSome (line_at front.now.lines line) }
+    requires class_least { 1 ≤ class }
+    requires class_greatest { class ≤ 16 }
+    ensures least { IfOk result (λ found.
+        IfSome found (IsBest sizes.now (state_of front.now) rules.now line class)) }
+    ensures none { IfOk result (λ found.
+        IfNone found (HasNone sizes.now (state_of front.now) rules.now line class)) }
+    ensures kept { OnOk result (BeginsWith notes.new.items notes.old.items) }
+    ensures noted { IfOk result (λ found. IfNone found
+        (IsRefusedBy sizes.now (state_of front.now) rules.now line class notes.new.items)) }
+    ensures counted { steps.new ≡ steps.old + 1 }
+{
+    steps.count();
+    let mut progress = Progress {
+        best: None,
+        notes: mem::replace(notes, Vec::new(alloc)),
+    };
+    let found = search_line(alloc, front, sizes, rules, line, class, true, &mut progress)?;
+    *notes = progress.notes;
+    Ok(found)
 }

@@ -10,8 +10,9 @@
 //! 5. `best` tries each live rule of quality at most the class on one line. The line's frame, the front
 //!    points in range and the front lines between them are gathered once, from the lines whose boxes
 //!    meet the range, and are shared by all rules.
-//! 6. The law on refusals (`laws::law_none`) is over notes of front lines, which `best` doesn't make:
-//!    where it finds nothing, no attempt is a candidate.
+//! 6. A search may note why assignments fail: front lines, each beside a mapped point. An assignment
+//!    that no front line hinders fails by its places alone, or by what no application undoes. `best`
+//!    makes no notes, `best_noted` makes them.
 
 mod application;
 mod around;
@@ -27,6 +28,7 @@ mod least;
 mod leeways;
 mod making;
 mod near;
+mod noting;
 mod out_of_reach;
 mod progress;
 mod rule_search;
@@ -42,7 +44,7 @@ pub use assignment::Assignment;
 pub use badness::Badness;
 pub use found::Found;
 pub use fresh::search_fresh;
-pub use least::{best, some_may_apply};
+pub use least::{best, best_noted, some_may_apply};
 pub use near::NearPoint;
 pub use out_of_reach::{
     Distance, greatest_reach, greatest_reach_at, is_out_of_reach, reach_beyond, reach_box,

@@ -1,4 +1,5 @@
 use Rattle.rule_match.specs.Trying.{starts}
+use Rattle.rule_match.proofs.Places.{allowed, on_its_front}
 use Rattle.rule_match.proofs.Tried.{tried}
 use Rattle.rule_match.proofs.laws.law_tried.Goals as goal
 
@@ -6,4 +7,4 @@ pub returns-clause-starts : goal.returns-clause-starts
 returns-clause-starts c = starts
 
 pub returns-clause-met : goal.returns-clause-met
-returns-clause-met c = tried
+returns-clause-met c = λ st t near lines around is. tried st t near lines around (allowed st t is) (on_its_front st t is)

@@ -16,8 +16,8 @@ invariant_of-result c = record {
   class_greatest = c.requires.class_greatest;
 }
 
-pub returns : goal.returns
-returns c = record {
+pub returns-clause-base : goal.returns-clause-base
+returns-clause-base c = record {
   base = record {
     front = c.points-points.ensures.holds;
     on_front = line_there c.args.front.now.lines c.args.line c.unwrap-from.result (sym c.line.ensures ∙ c.unwrap-from.ensures);

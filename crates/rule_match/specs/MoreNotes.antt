@@ -13,6 +13,9 @@ use Rattle.state_law.specs.State.{State, front_edges}
 use Rattle.state_law.specs.Refusal.{Attempt, HasReason, place_taken, not_turned, line_in_zone, line_hinders, outside_front, too_large}
 use Rattle.rule_match.specs.Candidate as trial
 use Rattle.rule_match.specs.declared.progress.Note.{Note}
+use Rattle.front_chain.specs.Front.{state_of}
+use Rattle.rule_match.specs.Base.{Tried, attempt_of}
+use Rattle.rule_match.specs.Noted.{HasExcuse}
 use Rattle.rule_match.specs.Refused.{is_noted, witnesses, IsExcused, places_of}
 
 more_reasons : (points : List Point) (front ws vs : List Edge) (t : Attempt) → ((w : Edge) → IsIn w ws → IsIn w vs) → HasReason points front ws t → HasReason points front vs t
@@ -24,7 +27,7 @@ more_reasons points front ws vs t h (outside_front before cs after s v u q r i o
 more_reasons points front ws vs t h (too_large before cs after s l) = too_large before cs after s l
 
 -- what is noted beside a point stays noted
-any_more : (f : Note → Bool) (xs ys : List Note) → list_any f xs ≡ true → list_any f (xs ++ ys) ≡ true
+pub any_more : (f : Note → Bool) (xs ys : List Note) → list_any f xs ≡ true → list_any f (xs ++ ys) ≡ true
 any_more f [] ys h = absurd (true≢false (sym h))
 any_more f (x ∷ xs) ys h = by_first (f x) h (any_more f xs ys)
   where
@@ -49,3 +52,6 @@ noted_more points keep more h (line ∷ front) w i = step (keep line) (more line
 pub excused_more : (st : State) (notes more : List Note) (t : trial.Attempt) → IsExcused st notes t → IsExcused st (notes ++ more) t
 excused_more st notes more t r = more_reasons st.points (front_edges st.points st.front) (witnesses st notes t) (witnesses st (notes ++ more) t) (places_of st t)
     (noted_more st.points (is_noted notes t.points) (is_noted (notes ++ more) t.points) (λ line h. any_more (λ note. nat_eq note.line line.0 && list_any (nat_eq note.point) t.points) notes more h) st.front) r
+
+pub more_excuses : (t : Tried) (notes more : List Note) (b : List ℕ) → HasExcuse t notes b → HasExcuse t (notes ++ more) b
+more_excuses t notes more b h = λ noting allowed. excused_more (state_of t.base.front) notes more (attempt_of t b) (h noting allowed)
