@@ -1,5 +1,5 @@
 -- What is remembered, and what comes next, depend on the points and the front alone.
-use Rattle.std.proofs.Common.{◌≡◌, ℕ, ◌+◌, ◌<◌, ◌≤◌, ◌⊎◌, inl, inr, slice_index_or, List, sym, ap, subst, ◌∙◌, arith}
+use Rattle.std.proofs.Common.{◌≡◌, ℕ, ◌+◌, ◌<◌, ◌≤◌, ◌⊎◌, inl, inr, slice_index_or, List, sym, subst, arith}
 use Rattle.std.specs.List.{Contains}
 use Rattle.grid_geom.specs.declared.Point.{Point}
 use Rattle.size_field.specs.Size.{SizeField}

@@ -1,5 +1,5 @@
 -- What was to be tried still is, as lines are put on the worklist one after another.
-use Rattle.std.proofs.Common.{◌≡◌, ◌≢◌, ℕ, ◌+◌, ◌<◌, ◌≤◌, ◌⊎◌, inl, inr, max, Bool, true, false, nat_eq, List, slice_index_or, refl, sym, ap, ◌∙◌, subst, arith, Option, None, Some, BTreeSet}
+use Rattle.std.proofs.Common.{◌≡◌, ◌≢◌, ℕ, ◌+◌, ◌<◌, ◌≤◌, ◌⊎◌, inl, inr, max, Bool, true, false, nat_eq, List, slice_index_or, refl, sym, ap, ◌∙◌, subst, arith, Option, None, Some}
 use Rattle.std.specs.BTreeSet.{Updates}
 use Rattle.mesh_run.specs.Worklist.{AreTriedAgain, AreTriedFirst, DoesStay, IsOn, IsTriedAgain, Lessened, least_open, turn_cmp}
 use Rattle.mesh_run.proofs.Turns.{Work, is_put_on, stays_on}

@@ -1,5 +1,5 @@
 -- Turns come by class, then by line: what comes before the first turn on the worklist is refused, since else it would be on the worklist.
-use Rattle.std.proofs.Common.{◌≡◌, ℕ, ◌+◌, ◌-◌, ◌<◌, ◌≤◌, ◌⊎◌, inl, inr, max, Bool, true, false, cond, List, [], ◌∷◌, length, slice_index_or, refl, sym, ap, ◌∙◌, subst, arith, Option, None, Some, is_some, nat_cmp, is_gt, is_eq, Ordering, Less, Equal, Greater, BTreeSet}
+use Rattle.std.proofs.Common.{◌≡◌, ℕ, ◌+◌, ◌-◌, ◌<◌, ◌≤◌, ◌⊎◌, inl, inr, max, Bool, true, false, cond, List, [], ◌∷◌, slice_index_or, refl, sym, ap, ◌∙◌, subst, arith, Option, None, Some, is_some, nat_cmp, is_gt, is_eq, Ordering, Less, Equal, Greater, BTreeSet}
 use Rattle.std.specs.List.{Contains, list_any}
 use Rattle.std.specs.Ordering.{ordering_then, match_ordering}
 use Rattle.std.specs.BTreeMap.{is_at}

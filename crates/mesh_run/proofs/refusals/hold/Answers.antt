@@ -1,4 +1,4 @@
-use Rattle.std.proofs.Common.{◌-◌, refl, sym, subst, arith}
+use Rattle.std.proofs.Common.{◌-◌, refl, subst, arith}
 use Rattle.rule_match.specs.Near.{IsReachBox}
 use Rattle.rule_match.proofs.BaseLines.{line_there}
 use Rattle.mesh_run.specs.declared.refusals.Refusals.{Refusals}

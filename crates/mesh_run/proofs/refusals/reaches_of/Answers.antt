@@ -1,5 +1,3 @@
-use Rattle.std.proofs.Common.{ap, ◌∙◌, length, arith}
-use Rattle.std.proofs.lemmas.List.{length_push}
 use Rattle.mesh_run.proofs.Reaches.{one_more_covers, one_more_long}
 use Rattle.mesh_run.proofs.refusals.reaches_of.Goals as goal
 
