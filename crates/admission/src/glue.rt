@@ -56,6 +56,8 @@ fn side(i: u64, a: Point, j: u64, b: Point) -> Line
 }
 
 /// Glues the sides of an element in order. The next number after that is answered.
+///
+/// Errors: want of memory, and then the first sides may be glued and the others not.
 pub fn glue_sides(lines: &mut Vec<Line>, next: u64, shape: &Shape) -> Result<u64, OutOfMemory>
     requires { next + 3 < 2 ^ 64 }
     ensures lines { OnOk result (lines.new.items ≡ glue_shape lines.old.items next shape.now) }

@@ -50,6 +50,8 @@ fn winds_once(front: &Front, taken: &[Edge], t: &Triangle) -> bool
 impl View {
     /// Glues the element: each of its sides that is a line leaves, and each other side joins
     /// reversed with the next number.
+    ///
+    /// Errors: want of memory, and then some sides may be glued and others not.
     pub fn glue(&mut self, shape: &Shape) -> Result<(), OutOfMemory>
         requires corners_on { IsTriangleOnGrid shape.now.t }
         requires room { self.old.next + 3 < 2 ^ 64 }

@@ -1,5 +1,7 @@
 -- what words ask for: one task or one fault, for those who go on with it
 pub mod Exclusion
+-- in which words one is at fault by its number or its name
+pub mod Shown
 -- ---- inner
 
 -- a list whose first item is known
@@ -16,4 +18,6 @@ pub mod FormPlaces
 -- words are read on word by word
 pub mod Halves
 pub mod Options
+pub mod FirstOff
 pub mod Misfits
+pub mod AtFault

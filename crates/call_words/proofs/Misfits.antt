@@ -3,7 +3,7 @@
 -- A word that may stand behind a walk leads to a walk with the same words behind it (`same`); where one may not, no
 -- words fit (`off`); and behind a sound walk some words fit: the value of an option that waits, and the places that
 -- are missing (`ends`).
-use Rattle.std.proofs.Common.{◌≡◌, ◌≢◌, ℕ, zero, suc, ◌+◌, ◌-◌, ◌<◌, Bool, true, false, cond, List, [], ◌∷◌, ◌++◌, length, take, Option, Some, None, map, string_bytes, refl, sym, ap, ◌∙◌, subst, arith}
+use Rattle.std.proofs.Common.{◌≡◌, ◌≢◌, ◌⊎◌, inl, inr, ℕ, zero, suc, ◌+◌, ◌-◌, ◌<◌, Bool, true, false, cond, List, [], ◌∷◌, length, Option, Some, None, map, string_bytes, refl, sym, ap, ◌∙◌, subst, arith}
 use Rattle.std.specs.Prelude.{nat_lt, option_map, option_and_then, String}
 use Rattle.std.proofs.lemmas.Bool.{ltb-true, ltb-false}
 use Rattle.call_words.specs.declared.command.Verb.{Verb}
@@ -13,8 +13,9 @@ use Rattle.call_words.specs.CommandLine.{setting_word, Given, nothing_given, wor
 use Rattle.call_words.specs.Commands.{verb_word, place_count, MayBeGiven, IsForm}
 use Rattle.call_words.specs.WordsRead.{WordSort, PlainWord, Dashes, Before, With, Other, word_sort, is_plain_sort, setting_of, set_first, set_called, with_place, read_word, read_value, reading}
 use Rattle.call_words.specs.Forms.{takes_options}
-use Rattle.call_words.specs.Begun.{Begins, IsMisfitBehind, BeginsCall, IsFirstMisfit}
-use Rattle.call_words.specs.Walks.{Walk, at_start, placed, waiting, set_to, if_free, free_option, walked_by, walked_past, walked_on, read_behind, Fits, IsSound, IsMisfitFrom, walk_seen}
+use Rattle.call_words.specs.Begun.{Begins, IsFirstOff, IsVerbAnd, IsFormed}
+use Rattle.call_words.proofs.FirstOff.{no_text, at_once, later, alike}
+use Rattle.call_words.specs.Walks.{Walk, at_start, placed, waiting, set_to, if_free, free_option, walked_by, walked_past, walked_on, read_behind, Fits, IsSound, walk_seen}
 use Rattle.call_words.specs.declared.misfit.Walk.{Walk as WalkValue}
 use Rattle.call_words.proofs.WordsRead.{some_of, none_some, mapped, called, set_free, reads_from, read_again}
 use Rattle.call_words.proofs.Exclusion.{same_start}
@@ -28,15 +29,23 @@ Found = Words × Given
 
 -- ---- a word that may stand there
 
+-- the word is a place, or it isn't
+abbrev pub IsPlaceStep : Walk → List ℕ → Walk → Type 0
+IsPlaceStep walk word next = (next.passed ≡ walk.passed + 1) × ((more : Words) → read_behind walk (word ∷ more) ≡ with_place word (read_behind next more))
+
+abbrev pub IsNoPlaceStep : Walk → List ℕ → Walk → Type 0
+IsNoPlaceStep walk word next = (next.passed ≡ walk.passed) × ((more : Words) → read_behind walk (word ∷ more) ≡ read_behind next more)
+
 -- the same words fit behind the word and behind the walk that it leads to, which is sound too
 pub record Same (verb : Verb) (walk : Walk) (word : List ℕ) (next : Walk) : Type 0 where
   pub on : (more : Words) → Fits verb next more → Fits verb walk (word ∷ more)
   pub back : (more : Words) → Fits verb walk (word ∷ more) → Fits verb next more
   pub sound : IsSound verb next
+  pub step : IsPlaceStep walk word next ⊎ IsNoPlaceStep walk word next
 
 -- a place
 a_place : (verb : Verb) (walk next : Walk) (word : List ℕ) → next.passed ≡ walk.passed + 1 → ((more : Words) → read_behind walk (word ∷ more) ≡ with_place word (read_behind next more)) → IsSound verb next → Same verb walk word next
-a_place verb walk next word one same sound = record { on = on; back = back; sound = sound }
+a_place verb walk next word one same sound = record { on = on; back = back; sound = sound; step = inl (one, same) }
   where
     on : (more : Words) → Fits verb next more → Fits verb walk (word ∷ more)
     on more fits =
@@ -64,6 +73,7 @@ no_place verb walk next word one same sound = record {
   on = λ more fits. let n = fits.count in record { places = fits.places; all = fits.all; read = same more ∙ fits.read; count = omega arith; options = fits.options };
   back = λ more fits. let n = fits.count in record { places = fits.places; all = fits.all; read = sym (same more) ∙ fits.read; count = omega arith; options = fits.options };
   sound = sound;
+  step = inr (one, same);
 }
 
 -- one place more
@@ -268,54 +278,30 @@ ends verb walk sound = go walk.alone walk.waits refl refl
 
 -- ---- the first misfit
 
-at_end : (verb : Verb) (walk : Walk) → IsSound verb walk → IsMisfitFrom verb walk [] 1
-at_end verb walk sound = let e = ends verb walk sound in record {
-  counted = omega arith;
-  within = omega arith;
-  more = e.0;
-  before = e.1;
-  here = λ there. absurd (omega arith);
-}
-
--- the same of texts
-pub no_text : {Z : Type 0} (verb : Verb) (walk : Walk) (words : List (String Z)) → length words < 1 → IsSound verb walk → IsMisfitFrom verb walk (map string_bytes words) 1
-no_text verb walk [] short sound = at_end verb walk sound
-no_text verb walk (word ∷ words) short sound = absurd (omega arith)
-
-at_once : (verb : Verb) (walk : Walk) (word : List ℕ) (rest : Words) → walked_on verb walk word ≡ None → IsSound verb walk → IsMisfitFrom verb walk (word ∷ rest) 1
-at_once verb walk word rest e sound = let end = ends verb walk sound in record {
-  counted = omega arith;
-  within = omega arith;
-  more = end.0;
-  before = end.1;
-  here = λ there more. off verb walk word e more;
-}
-
-later : (verb : Verb) (walk next : Walk) (word : List ℕ) (rest : Words) (n : ℕ) → walked_on verb walk word ≡ Some next → IsSound verb walk → IsMisfitFrom verb next rest n → IsMisfitFrom verb walk (word ∷ rest) (n + 1)
-later verb walk next word rest (suc n) e sound m = let s = same verb walk word next e sound in let c = m.within in record {
-  counted = omega arith;
-  within = omega arith;
-  more = m.more;
-  before = let k : suc n + 1 - 1 ≡ suc (suc n - 1) = omega arith in rw k (s.on _ m.before);
-  here = λ there more. let k : suc n + 1 ≡ suc (suc n) = omega arith in rw k (λ fits. m.here (omega arith) more (s.back _ fits));
-}
-later verb walk next word rest zero e sound m = let c = m.counted in absurd (omega arith)
-
 -- from what a call gives
-pub stops : (verb : Verb) (walk : Walk) (word : List ℕ) (rest words : Words) (next : Option WalkValue) → words ≡ word ∷ rest → next ≡ None → option_map walk_seen next ≡ walked_on verb walk word → IsSound verb walk → IsMisfitFrom verb walk words 1
-stops verb walk word rest words next is none e sound = subst (λ (ws : Words). IsMisfitFrom verb walk ws 1) (sym is) (at_once verb walk word rest (sym e ∙ ap (option_map walk_seen) none) sound)
-
-goes_on : (verb : Verb) (walk : Walk) (word : List ℕ) (next : Option WalkValue) (value : WalkValue) → next ≡ Some value → option_map walk_seen next ≡ walked_on verb walk word → walked_on verb walk word ≡ Some (walk_seen value)
+pub goes_on : (verb : Verb) (walk : Walk) (word : List ℕ) (next : Option WalkValue) (value : WalkValue) → next ≡ Some value → option_map walk_seen next ≡ walked_on verb walk word → walked_on verb walk word ≡ Some (walk_seen value)
 goes_on verb walk word next value is e = sym e ∙ ap (option_map walk_seen) is
+
+pub stays : (verb : Verb) (walk : Walk) (word : List ℕ) (next : Option WalkValue) → next ≡ None → option_map walk_seen next ≡ walked_on verb walk word → walked_on verb walk word ≡ None
+stays verb walk word next none e = sym e ∙ ap (option_map walk_seen) none
 
 pub sound_on : (verb : Verb) (walk : Walk) (word : List ℕ) (next : Option WalkValue) (value : WalkValue) → next ≡ Some value → option_map walk_seen next ≡ walked_on verb walk word → IsSound verb walk → IsSound verb (walk_seen value)
 sound_on verb walk word next value is e sound = (same verb walk word (walk_seen value) (goes_on verb walk word next value is e) sound).sound
 
-pub counts_on : (verb : Verb) (walk : Walk) (word : List ℕ) (rest words : Words) (next : Option WalkValue) (value : WalkValue) (n : ℕ) → words ≡ word ∷ rest → next ≡ Some value → option_map walk_seen next ≡ walked_on verb walk word → IsSound verb walk → IsMisfitFrom verb (walk_seen value) rest n → IsMisfitFrom verb walk words (n + 1)
-counts_on verb walk word rest words next value n are is e sound m = subst (λ (ws : Words). IsMisfitFrom verb walk ws (n + 1)) (sym are) (later verb walk (walk_seen value) word rest n (goes_on verb walk word next value is e) sound m)
+pub no_words_fit : {Z : Type 0} (verb : Verb) (walk : Walk) (words : List (String Z)) → length words < 1 → IsSound verb walk → IsFirstOff (Fits verb walk) (map string_bytes words) 1
+no_words_fit verb walk words short sound = no_text (Fits verb walk) words short (ends verb walk sound)
+
+pub stops : (verb : Verb) (walk : Walk) (word : List ℕ) (rest words : Words) → words ≡ word ∷ rest → walked_on verb walk word ≡ None → IsSound verb walk → IsFirstOff (Fits verb walk) words 1
+stops verb walk word rest words are none sound = at_once (Fits verb walk) words word rest are (ends verb walk sound) (off verb walk word none)
+
+pub counts_on : (verb : Verb) (walk next : Walk) (word : List ℕ) (rest words : Words) (n : ℕ) → words ≡ word ∷ rest → walked_on verb walk word ≡ Some next → IsSound verb walk → IsFirstOff (Fits verb next) rest n → IsFirstOff (Fits verb walk) words (n + 1)
+counts_on verb walk next word rest words n are e sound first = let s = same verb walk word next e sound in later (Fits verb walk) (Fits verb next) words word rest n are s.on s.back first
 
 start_sound : (verb : Verb) → IsSound verb at_start
 start_sound verb = record { few = omega arith; free = λ setting e. none_some setting e; own = λ setting e. none_some setting e; bare = λ none. refl }
+
+pub starts : (verb : Verb) (walk : Walk) → walk ≡ at_start → IsSound verb walk
+starts verb walk e = subst (IsSound verb) (sym e) (start_sound verb)
 
 -- ---- from walks to forms
 
@@ -328,7 +314,7 @@ may_where verbs.View given h = h refl
 may_where verbs.Replay given h = h refl
 may_where verbs.Gen given h = h refl
 
-bare_where : (verb : Verb) (given : Given) → MayBeGiven verb given → takes_options verb ≡ false → given ≡ nothing_given
+pub bare_where : (verb : Verb) (given : Given) → MayBeGiven verb given → takes_options verb ≡ false → given ≡ nothing_given
 bare_where verbs.Mesh given h none = absurd cc
 bare_where verbs.Geom given h none = h
 bare_where verbs.Rules given h none = h
@@ -337,86 +323,44 @@ bare_where verbs.View given h none = h
 bare_where verbs.Replay given h none = h
 bare_where verbs.Gen given h none = h
 
-begun : (verb : Verb) (words more : Words) → Fits verb at_start (words ++ more) → Begins verb words
-begun verb words more fits = record {
-  more = more;
-  places = fits.places;
-  given = fits.all;
-  form = record {
-    reads = reads_from (words ++ more) None nothing_given fits.places fits.all fits.read;
-    count = let n = fits.count in omega arith;
-    options = may_where verb fits.all fits.options;
-  };
+-- words that are read so from the start are in the form
+pub formed : (verb : Verb) (words places : Words) (given : Given) → reading None nothing_given words ≡ Some (places, given) → length places ≡ place_count verb → (takes_options verb ≡ false → given ≡ nothing_given) → IsForm verb words places given
+formed verb words places given read count bare = record {
+  reads = reads_from words None nothing_given places given read;
+  count = count;
+  options = may_where verb given bare;
 }
 
-behind_from : (verb : Verb) (words : Words) (n : ℕ) → IsMisfitFrom verb at_start words n → IsMisfitBehind verb words n
-behind_from verb words n m = record {
-  counted = m.counted;
-  within = m.within;
-  before = begun verb (take (n - 1) words) m.more m.before;
-  here = λ there begins. m.here there begins.more (record {
-    places = begins.places;
-    all = begins.given;
-    read = read_again begins.form.reads;
-    count = let n = begins.form.count in omega arith;
-    options = bare_where verb begins.given begins.form.options;
-  });
+form_fits : (verb : Verb) (words : Words) → IsFormed verb words → Fits verb at_start words
+form_fits verb words f = record {
+  places = f.0;
+  all = f.1;
+  read = read_again f.2.reads;
+  count = let n = f.2.count in omega arith;
+  options = bare_where verb f.1 f.2.options;
 }
 
-pub behind_is : (verb : Verb) (words : Words) (n : ℕ) (given : Given) → given ≡ nothing_given → IsMisfitFrom verb (record { passed = 0; given = given; waits = None; alone = false }) words n → IsMisfitBehind verb words n
-behind_is verb words n given none m = behind_from verb words n (subst (λ (g : Given). IsMisfitFrom verb (record { passed = 0; given = g; waits = None; alone = false }) words n) none m)
+fits_form : (verb : Verb) (words : Words) → Fits verb at_start words → IsFormed verb words
+fits_form verb words fits = (fits.places, fits.all, formed verb words fits.places fits.all fits.read (let n = fits.count in omega arith) fits.options)
 
-pub starts : (verb : Verb) (given : Given) → given ≡ nothing_given → IsSound verb (record { passed = 0; given = given; waits = None; alone = false })
-starts verb given none = subst (λ (g : Given). IsSound verb (record { passed = 0; given = g; waits = None; alone = false })) (sym none) (start_sound verb)
+pub behind_is : (verb : Verb) (words : Words) (n : ℕ) (walk : Walk) → walk ≡ at_start → IsFirstOff (Fits verb walk) words n → IsFirstOff (IsFormed verb) words n
+behind_is verb words n walk e first = alike (Fits verb at_start) (IsFormed verb) words n (fits_form verb) (form_fits verb) (subst (λ (w : Walk). IsFirstOff (Fits verb w) words n) e first)
 
 -- ---- from the words after a verb to a call
 
+behind_verb : (P : Verb → Words → Type 0) (verb : Verb) (rest : Words) → IsVerbAnd P (verb_word verb ∷ rest) → P verb rest
+behind_verb P verb rest h = let s = same_start verb h.0 rest h.1 h.2 in
+    subst (λ (v : Verb). P v rest) (sym s.0) (subst (λ (ws : Words). P h.0 ws) (sym s.1) h.3)
+
+first_is : (w v : List ℕ) (ws vs : Words) → w ∷ ws ≡ v ∷ vs → w ≡ v
+first_is w v ws vs e = cc
+
+pub no_verb : (P : Verb → Words → Type 0) (words : Words) (word : List ℕ) (rest : Words) → words ≡ word ∷ rest → Begins (IsVerbAnd P) [] → ((verb : Verb) → word ≢ verb_word verb) → IsFirstOff (IsVerbAnd P) words 1
+no_verb P words word rest are some never = at_once (IsVerbAnd P) words word rest are some (λ more h. never h.0 (first_is word (verb_word h.0) more h.1 h.2))
+
+pub of_verb : (P : Verb → Words → Type 0) (words : Words) (word : List ℕ) (verb : Verb) (rest : Words) (n : ℕ) → words ≡ word ∷ rest → word ≡ verb_word verb → IsFirstOff (P verb) rest n → IsFirstOff (IsVerbAnd P) words (n + 1)
+of_verb P words word verb rest n are is first = later (IsVerbAnd P) (P verb) words (verb_word verb) rest n (are ∙ ap (λ (w : List ℕ). w ∷ rest) is) (λ more h. (verb, more, refl, h)) (behind_verb P verb) first
+
 -- no word yet
-begins_none : BeginsCall []
-begins_none = let e = ends verbs.Geom at_start (start_sound verbs.Geom) in let b = begun verbs.Geom [] e.0 e.1 in record {
-  more = verb_word verbs.Geom ∷ b.more;
-  verb = verbs.Geom;
-  rest = b.more;
-  places = b.places;
-  given = b.given;
-  are = refl;
-  form = b.form;
-}
-
-begins_with : (verb : Verb) (rest : Words) → Begins verb rest → BeginsCall (verb_word verb ∷ rest)
-begins_with verb rest b = record { more = b.more; verb = verb; rest = rest ++ b.more; places = b.places; given = b.given; are = refl; form = b.form }
-
-begins_behind : (verb : Verb) (rest : Words) → BeginsCall (verb_word verb ∷ rest) → Begins verb rest
-begins_behind verb rest b = let s = same_start verb b.verb (rest ++ b.more) b.rest b.are in record {
-  more = b.more;
-  places = b.places;
-  given = b.given;
-  form = subst (λ (v : Verb). IsForm v (rest ++ b.more) b.places b.given) (sym s.0) (subst (λ (ws : Words). IsForm b.verb ws b.places b.given) (sym s.1) b.form);
-}
-
-first_byte_of : (w v : List ℕ) (ws vs : Words) → w ∷ ws ≡ v ∷ vs → w ≡ v
-first_byte_of w v ws vs e = cc
-
-pub no_words : {Z : Type 0} (words : List (String Z)) → length words < 1 → IsFirstMisfit (map string_bytes words) 1
-no_words [] short = record { counted = omega arith; within = omega arith; before = begins_none; here = λ there. absurd (omega arith) }
-no_words (word ∷ words) short = absurd (omega arith)
-
-pub no_verb : (words : Words) (word : List ℕ) (rest : Words) → words ≡ word ∷ rest → ((verb : Verb) → word ≢ verb_word verb) → IsFirstMisfit words 1
-no_verb words word rest are never = subst (λ (ws : Words). IsFirstMisfit ws 1) (sym are) (record {
-  counted = omega arith;
-  within = omega arith;
-  before = begins_none;
-  here = λ there b. never b.verb (first_byte_of word (verb_word b.verb) b.more b.rest b.are);
-})
-
-behind_verb : (verb : Verb) (rest : Words) (n : ℕ) → IsMisfitBehind verb rest n → IsFirstMisfit (verb_word verb ∷ rest) (n + 1)
-behind_verb verb rest (suc n) m = let c = m.within in record {
-  counted = omega arith;
-  within = omega arith;
-  before = let k : suc n + 1 - 1 ≡ suc (suc n - 1) = omega arith in rw k (begins_with verb _ m.before);
-  here = λ there. let k : suc n + 1 ≡ suc (suc n) = omega arith in rw k (λ b. m.here (omega arith) (begins_behind verb _ b));
-}
-behind_verb verb rest zero m = let c = m.counted in absurd (omega arith)
-
-pub of_verb : (words : Words) (word : List ℕ) (verb : Verb) (rest : Words) (n : ℕ) → words ≡ word ∷ rest → word ≡ verb_word verb → IsMisfitBehind verb rest n → IsFirstMisfit words (n + 1)
-of_verb words word verb rest n are is m = subst (λ (ws : Words). IsFirstMisfit ws (n + 1)) (sym (are ∙ ap (λ (w : List ℕ). w ∷ rest) is)) (behind_verb verb rest n m)
+pub some_call : Begins (IsVerbAnd IsFormed) []
+some_call = let e = ends verbs.Geom at_start (start_sound verbs.Geom) in (verb_word verbs.Geom ∷ e.0, (verbs.Geom, e.0, refl, fits_form verbs.Geom e.0 e.1))

@@ -209,13 +209,13 @@ set_free Grading word given e = rw e refl
 set_free Class word given e = rw e refl
 set_free Steps word given e = rw e refl
 
-sort_before : (setting : Setting) → word_sort (codes "--" ++ setting_word setting) ≡ Before (setting_word setting)
+pub sort_before : (setting : Setting) → word_sort (codes "--" ++ setting_word setting) ≡ Before (setting_word setting)
 sort_before Maxh = refl
 sort_before Grading = refl
 sort_before Class = refl
 sort_before Steps = refl
 
-sort_with : (setting : Setting) (value : List ℕ) → word_sort (codes "--" ++ setting_word setting ++ codes "=" ++ value) ≡ With (setting_word setting) value
+pub sort_with : (setting : Setting) (value : List ℕ) → word_sort (codes "--" ++ setting_word setting ++ codes "=" ++ value) ≡ With (setting_word setting) value
 sort_with Maxh value = refl
 sort_with Grading value = refl
 sort_with Class value = refl

@@ -4,15 +4,22 @@
 -- walked_on     the walk behind one more word, where it may stand there
 -- Fits          the words behind the walk make it one in the form of the verb
 -- IsSound       some words fit
--- IsMisfitFrom  the first word with which no words fit
-use Rattle.std.specs.Prelude.{◌≡◌, ℕ, ◌+◌, ◌-◌, ◌≤◌, Bool, true, false, if◌then◌else◌, nat_lt, List, ◌++◌, length, take, Option, Some, None, option_map}
+-- Course        a walk with the name of the mesh
+-- IsRight       the word may be this place
+-- FitsRight     the words behind the walk make it one that stands for a task
+-- IsOnCourse    some words do
+use Rattle.std.specs.Prelude.{◌≡◌, ℕ, ◌+◌, ◌≢◌, ◌≤◌, ◌==◌, Bool, true, false, ◌&&◌, if◌then◌else◌, nat_lt, List, [], ◌∷◌, length, Option, Some, None, option_map}
+use Rattle.std.specs.Option.{option_copied}
 use Rattle.call_words.specs.declared.command.Verb.{Verb}
+use Rattle.call_words.specs.declared.command.Verb.TheVariants as verbs
+use Rattle.call_words.specs.declared.command.MeshOptions.{MeshOptions}
+use Rattle.call_words.specs.declared.at_fault.Course.{Course as CourseValue}
 use Rattle.call_words.specs.declared.settings.Setting.{Setting}
 use Rattle.call_words.specs.declared.misfit.Sort.{Sort}
 use Rattle.call_words.specs.declared.misfit.Sort.TheVariants as sorts
 use Rattle.call_words.specs.declared.misfit.Walk.{Walk as WalkValue}
 use Rattle.call_words.specs.CommandLine.{setting_word, Given, nothing_given, word_given, with_word}
-use Rattle.call_words.specs.Commands.{place_count}
+use Rattle.call_words.specs.Commands.{place_count, IsWholeFrom, AreOptions}
 use Rattle.call_words.specs.WordsRead.{given_of, WordSort, PlainWord, Dashes, Before, With, Other, word_sort, is_plain_sort, setting_of, reading}
 use Rattle.call_words.specs.Forms.{takes_options}
 
@@ -110,10 +117,72 @@ pub record IsSound (verb : Verb) (walk : Walk) : Type 0 where
   pub own : (setting : Setting) → walk.waits ≡ Some setting → takes_options verb ≡ true
   pub bare : takes_options verb ≡ false → walk.given ≡ nothing_given
 
--- the first of the words, by its number from 1, with which no words fit behind the walk; or one behind the last
-pub record IsMisfitFrom (verb : Verb) (walk : Walk) (words : List (List ℕ)) (number : ℕ) : Type 0 where
-  pub counted : 1 ≤ number
-  pub within : number ≤ length words + 1
-  pub more : List (List ℕ)
-  pub before : Fits verb walk (take (number - 1) words ++ more)
-  pub here : number ≤ length words → (more : List (List ℕ)) → ¬ Fits verb walk (take number words ++ more)
+-- the range of the number in a place, where a number stands there; places are counted from 0
+abbrev pub range_of : Verb → ℕ → Option (ℕ × ℕ)
+range_of verbs.Mesh place = None
+range_of verbs.Geom place = None
+range_of verbs.Rules place = None
+range_of verbs.Check place = None
+range_of verbs.View place = if place == 1 then Some (1, 64)
+    else if place == 2 then Some (0, 1000000000000) else None
+range_of verbs.Replay place = None
+range_of verbs.Gen place = if place == 0 then Some (1, 8)
+    else if place == 1 then Some (1, 16) else None
+
+abbrev pub IsInRange : Option (ℕ × ℕ) → List ℕ → Type 0
+IsInRange None word = Unit {0}
+IsInRange (Some (least, greatest)) word = (number : ℕ) × IsWholeFrom least greatest word number
+
+-- the word may be this place, where the mesh has this name, if it is known yet
+pub record IsRight (verb : Verb) (place : ℕ) (mesh : Option (List ℕ)) (word : List ℕ) : Type 0 where
+  pub range : IsInRange (range_of verb place) word
+  pub other : mesh ≢ Some word
+
+-- the name of the mesh, behind this place, where names are looked at
+abbrev pub mesh_behind : Bool → ℕ → List ℕ → Option (List ℕ) → Option (List ℕ)
+mesh_behind names place word mesh = if names && place == 2 then Some word else mesh
+
+-- the words may be the places from this one on
+abbrev pub AreRight : Verb → Bool → ℕ → Option (List ℕ) → List (List ℕ) → Type 0
+AreRight verb names place mesh [] = Unit {0}
+AreRight verb names place mesh (word ∷ words) = IsRight verb place mesh word
+    × AreRight verb names (place + 1) (mesh_behind names place word mesh) words
+
+-- a walk, whether names are looked at, and the name of the mesh, if it is known yet
+pub record Course : Type 0 where
+  pub walk : Walk
+  pub names : Bool
+  pub mesh : Option (List ℕ)
+
+abbrev pub course_seen : CourseValue → Course
+course_seen course =
+    record {
+      walk = walk_seen course.walk;
+      names = course.names;
+      mesh = option_copied course.mesh;
+    }
+
+-- the words behind the walk make it one that stands for a task
+pub record FitsRight (verb : Verb) (course : Course) (words : List (List ℕ)) : Type 0 where
+  pub places : List (List ℕ)
+  pub all : Given
+  pub read : read_behind course.walk words ≡ Some (places, all)
+  pub count : course.walk.passed + length places ≡ place_count verb
+  pub bare : takes_options verb ≡ false → all ≡ nothing_given
+  pub right : AreRight verb course.names course.walk.passed course.mesh places
+  pub options : MeshOptions
+  pub values : AreOptions all options
+
+-- the walk is sound, its options have values, and names are looked at and kept of `mesh` alone
+pub record IsOnCourse (verb : Verb) (course : Course) : Type 0 where
+  pub sound : IsSound verb course.walk
+  pub options : MeshOptions
+  pub values : AreOptions course.walk.given options
+  pub own : course.names ≡ true → takes_options verb ≡ true
+  pub nameless : course.names ≡ false → course.mesh ≡ None
+
+-- what the word leads to, where it may stand behind the walk
+pub record LeadsTo (verb : Verb) (course : Course) (word : List ℕ) (next : Course) : Type 0 where
+  pub on : (more : List (List ℕ)) → FitsRight verb next more → FitsRight verb course (word ∷ more)
+  pub back : (more : List (List ℕ)) → FitsRight verb course (word ∷ more) → FitsRight verb next more
+  pub still : IsOnCourse verb next

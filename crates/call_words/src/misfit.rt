@@ -4,8 +4,9 @@ ghost use Rattle.std.specs.Prelude.{◌≡◌, ◌≤◌, ◌+◌, length, map, 
 ghost use Rattle.call_words.specs.Commands.{place_count};
 ghost use Rattle.call_words.specs.WordsRead.{given_of, halves, word_sort, setting_of};
 ghost use Rattle.call_words.specs.Forms.{takes_options};
-ghost use Rattle.call_words.specs.Begun.{IsMisfitBehind, IsFirstMisfit};
-ghost use Rattle.call_words.specs.Walks.{sort_seen, walk_seen, placed, free_option, walked_by, walked_on, IsSound, IsMisfitFrom};
+ghost use Rattle.call_words.specs.Begun.{IsFirstOff, IsFormed, IsFirstMisfit};
+ghost use Rattle.call_words.specs.Walks.{sort_seen, walk_seen, at_start, placed, free_option, walked_by};
+ghost use Rattle.call_words.specs.Walks.{walked_on, Fits, IsSound};
 
 use super::command::{Verb, verb_called};
 use super::settings::{Setting, Settings, setting_of};
@@ -33,6 +34,20 @@ pub(crate) struct Walk<'a> {
     pub settings: Settings<'a>,
     pub waits: Option<Setting>,
     pub alone: bool,
+}
+
+impl Walk<'_> {
+    /// Before the first word.
+    pub(crate) fn new() -> Self
+        ensures { walk_seen result ≡ at_start }
+    {
+        Walk {
+            passed: 0,
+            settings: Settings::new(),
+            waits: None,
+            alone: false,
+        }
+    }
 }
 
 /// The texts before and after the first `=`.
@@ -135,7 +150,7 @@ fn walked_by<'a>(verb: Verb, walk: &Walk<'a>, sort: Sort<'a>) -> Option<Walk<'a>
 }
 
 /// The walk behind the word, where it may stand there.
-fn walked_on<'a>(verb: Verb, walk: &Walk<'a>, word: &'a str) -> Option<Walk<'a>>
+pub(crate) fn walked_on<'a>(verb: Verb, walk: &Walk<'a>, word: &'a str) -> Option<Walk<'a>>
     ensures { option_map walk_seen result ≡ walked_on verb (walk_seen walk.now) word.entry.now }
 {
     if walk.alone {
@@ -162,7 +177,7 @@ fn walked_on<'a>(verb: Verb, walk: &Walk<'a>, word: &'a str) -> Option<Walk<'a>>
 /// calls itself for each word that may stand there, which are few.
 fn misfit_from<'a>(verb: Verb, walk: &Walk<'a>, words: &'a [String]) -> usize
     requires { IsSound verb (walk_seen walk.now) }
-    ensures { IsMisfitFrom verb (walk_seen walk.now) (map string_bytes words.entry.now) result }
+    ensures { IsFirstOff (Fits verb (walk_seen walk.now)) (map string_bytes words.entry.now) result }
 {
     let [word, rest @ ..] = words else {
         return 1;
@@ -176,15 +191,9 @@ fn misfit_from<'a>(verb: Verb, walk: &Walk<'a>, words: &'a [String]) -> usize
 /// The number, from 1, of the first word after the verb that can't stand where it stands; where each may,
 /// one behind the last.
 fn misfit_behind(verb: Verb, words: &[String]) -> usize
-    ensures { IsMisfitBehind verb (map string_bytes words.now) result }
+    ensures { IsFirstOff (IsFormed verb) (map string_bytes words.now) result }
 {
-    let walk = Walk {
-        passed: 0,
-        settings: Settings::new(),
-        waits: None,
-        alone: false,
-    };
-    misfit_from(verb, &walk, words)
+    misfit_from(verb, &Walk::new(), words)
 }
 
 /// The number, from 1, of the first word of a call that can't stand where it stands: with it the words

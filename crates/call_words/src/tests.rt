@@ -1,6 +1,6 @@
 //! The words of calls, as values. The lines of `examples/words` show what is refused.
 use crate::command::{Command, MeshOptions, read_words};
-use crate::{WordsFault, first_misfit};
+use crate::{WordsFault, first_at_fault, first_misfit};
 use std::alloc::{AllocError, Global};
 use std::test::Fail;
 use word_scan::Dec;
@@ -54,5 +54,17 @@ fn the_first_word_that_can_not_stand_is_numbered(rt: HostRuntime) -> Result<(), 
     let twice = words_of(rt.alloc(), "mesh g r --class 1 m --class=1 l")?;
     let short = words_of(rt.alloc(), "mesh g --maxh")?;
     assert_eq!(rt; (first_misfit(&twice), first_misfit(&short)), (7, 4));
+    Ok(())
+}
+
+#[test]
+fn the_first_word_at_fault_is_numbered(rt: HostRuntime) -> Result<(), Fail> {
+    let class = words_of(rt.alloc(), "mesh g r x x --class 17")?;
+    assert_eq!(rt;
+        (first_at_fault(&class, false), first_at_fault(&class, true)),
+        (7, 5)
+    );
+    let step = words_of(rt.alloc(), "view l -- 64 -1")?;
+    assert_eq!(rt; (first_at_fault(&step, false), first_misfit(&step)), (5, 6));
     Ok(())
 }

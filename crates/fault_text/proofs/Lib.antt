@@ -1,0 +1,2 @@
+-- the word of a call that is shown
+pub mod CallWords

@@ -5,7 +5,8 @@
 -- cursor_behind  the cursor behind bytes that begin a text
 -- IsSpot         the word with this number has these bytes, and stands in this line and column
 -- IsMisfit       the first word of a call that can't stand where it stands
-use Rattle.std.specs.Prelude.{◌≡◌, ℕ, ◌+◌, ◌-◌, ◌≤◌, ◌==◌, if◌then◌else◌, List, take, Some, slice_get}
+-- IsAtFault      the first that is at fault, by its number or its name
+use Rattle.std.specs.Prelude.{◌≡◌, ℕ, ◌+◌, ◌-◌, ◌≤◌, ◌==◌, if◌then◌else◌, Bool, List, take, Some, slice_get}
 use Rattle.std.specs.List.{fold}
 use Rattle.word_scan.specs.declared.scanner.Word.{Word}
 use Rattle.word_scan.specs.declared.scanner.Style.{Style}
@@ -14,7 +15,7 @@ use Rattle.word_scan.specs.Bytes.{bytes_of}
 use Rattle.fault_text.specs.declared.spot.Cursor.{Cursor}
 use Rattle.fault_text.specs.declared.spot.Spot.{Spot}
 use Rattle.fault_text.specs.declared.words.CallWord.{CallWord}
-use Rattle.call_words.specs.Begun.{IsFirstMisfit}
+use Rattle.call_words.specs.Begun.{IsFirstMisfit, IsFirstAtFault}
 
 -- the words of a text in a style, from left to right
 abbrev pub words : Style → List ℕ → List Word
@@ -40,4 +41,9 @@ pub record IsSpot (style : Style) (text : List ℕ) (number : ℕ) (spot : Spot)
 -- the number is that of the first word of a call that can't stand where it stands, and this is the word
 pub record IsMisfit (words : List (List ℕ)) (found : CallWord) : Type 0 where
   pub first : IsFirstMisfit words found.number
+  pub bytes : slice_get words (found.number - 1) ≡ Some found.word.now
+
+-- the number is that of the first word of a call that is at fault, and this is the word
+pub record IsAtFault (names : Bool) (words : List (List ℕ)) (found : CallWord) : Type 0 where
+  pub first : IsFirstAtFault names words found.number
   pub bytes : slice_get words (found.number - 1) ≡ Some found.word.now

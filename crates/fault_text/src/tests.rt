@@ -1,5 +1,6 @@
 //! Each kind of sentence once, as a person reads it.
 use crate::{File, Reason, Refused, sentence};
+use std::alloc::{AllocError, Global};
 use std::test::Fail;
 
 const PLATE: &[u8] =
@@ -119,23 +120,42 @@ fn what_is_no_printable_sign_is_made_visible(rt: HostRuntime) -> Result<(), Fail
     Ok(())
 }
 
-#[test]
-fn words_are_answered_by_the_form_of_their_verb(rt: HostRuntime) -> Result<(), Fail> {
-    let alloc = rt.alloc();
-    let words = [
-        String::from_str(alloc, "geom")?,
-        String::from_str(alloc, "--maxh")?,
-    ];
-    let said = sentence(
-        rt.alloc(),
+/// What is said of the words of a line, which single spaces part.
+fn said_of(alloc: Global, line: &str, fault: u32) -> Result<String, AllocError> {
+    let mut words = Vec::new(alloc);
+    for word in line.split(' ') {
+        words.push(String::from_str(alloc, word)?)?;
+    }
+    sentence(
+        alloc,
         &Refused::Words {
             words: &words,
-            fault: 3,
+            fault,
         },
-    )?;
+    )
+}
+
+#[test]
+fn words_are_answered_by_the_form_of_their_verb(rt: HostRuntime) -> Result<(), Fail> {
+    let said = said_of(rt.alloc(), "geom --maxh", 3)?;
     assert_eq!(rt;
         said.as_str(),
         "netmesh: refused: '--maxh', word 2, can't stand there; the form is geom GEOMETRY\n"
+    );
+    Ok(())
+}
+
+#[test]
+fn a_number_and_a_name_at_fault_are_shown(rt: HostRuntime) -> Result<(), Fail> {
+    let said = said_of(rt.alloc(), "gen 8 17", 4)?;
+    assert_eq!(rt;
+        said.as_str(),
+        "netmesh: refused: '17', word 3, is out of range, or no number; the form is gen N M: N is 1 to 8, M 1 to 16\n"
+    );
+    let said = said_of(rt.alloc(), "mesh g r x --class 3 x", 5)?;
+    assert_eq!(rt;
+        said.as_str(),
+        "netmesh: refused: 'x', word 7, is LOG, and MESH has the same name\n"
     );
     Ok(())
 }

@@ -56,6 +56,8 @@ impl Model for Front {
 impl Front {
     /// The front of these points, numbered from 1, and these lines between them, numbered in their
     /// order. A point that is no end of a line waits.
+    ///
+    /// Errors: want of memory, and then there is no front.
     pub fn open(alloc: Global, points: &[Point], lines: &[(u64, u64)]) -> Result<Front, OutOfMemory>
         requires { IsOpening points.now lines.now }
         ensures points { IfOk result (λ f. f.points ≡ points.now) }
@@ -180,6 +182,8 @@ impl Front {
 
     /// The numbers of the lines whose boxes meet `b`, in the order of the front's walk: those that
     /// `first_near` and `next_near` meet one after another, at the cost of one walk.
+    ///
+    /// Errors: want of memory, and then no number is told. The front is only read, so it is as before.
     pub fn near_lines(&self, alloc: Global, b: &Bounds) -> Result<Vec<u64>, OutOfMemory>
         ensures walked { IfOk result (λ v. v.items ≡ near_in_walk self.now b.now) }
         ensures near { IfOk result (λ v. AreNear self.now b.now v.items) }

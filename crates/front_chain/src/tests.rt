@@ -71,6 +71,8 @@ fn a_walk_meets_the_near_lines(rt: HostRuntime) -> Result<(), Fail> {
         }
     }
     assert!(rt; met == 12 || met == 21);
+    let numbers = front.near_lines(rt.alloc(), &corner)?;
+    assert!(rt; numbers.len() == 2 && numbers.contains(&1) && numbers.contains(&2));
     Ok(())
 }
 

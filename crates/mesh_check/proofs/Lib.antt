@@ -5,6 +5,7 @@
 -- LeastPairs: the least pair with a property.
 -- SpotOrder: points sorted by place.
 -- Twins: the least two points at one place.
+-- Kept: entries of trees, and what a box picks out.
 -- OpenSides: points in open sides.
 -- SliceParts: a slice as its first item and the rest.
 -- SideCounts: how often sides stand in lists.
@@ -14,7 +15,7 @@
 -- Walks: walks of edge rows, step by step.
 -- OneWalk, OneVerdict: a mesh has one verdict.
 -- RowWinding, Partition, NoSharedSide: elements wind as boundaries do, and share no directed side.
--- Noted: points noted as corners.
+-- Noted: points noted as corners, edge rows with no point in them.
 -- Touching, NoCornerHangs: where sides' sums agree, no corner of an element hangs.
 -- Moves: the tests of an edge row's ends.
 pub mod Prefixes
@@ -22,6 +23,7 @@ pub mod Apart
 pub mod LeastPairs
 pub mod SpotOrder
 pub mod Twins
+pub mod Kept
 pub mod OpenSides
 pub mod SliceParts
 pub mod SideCounts

@@ -1,6 +1,6 @@
 -- Where elements and boundaries agree, each side has its reverse in an element too, or is an edge row. The element of a
 -- corner in an open side reaches to the left of the side or of its reverse, and there it would overlap another element.
--- So in a tight mesh no point hangs.
+-- So where no point is in an open edge row, no corner hangs, and in a tight mesh no point does.
 -- Stands on Touching and NoSharedSide.
 use Rattle.std.proofs.Common.{◌≡◌, ◌⊎◌, ℕ, zero, suc, ◌+◌, ◌-◌, ◌<◌, ◌≤◌, ◌==◌, nat_eq, Bool, true, false, cond, List, [], ◌∷◌, ◌++◌, length, map, filter, slice_index_or, inl, inr, sym, ap, subst, arith}
 use lib.IntN.{pos}
@@ -30,7 +30,7 @@ use Rattle.vol_format.specs.declared.MeshElement.{MeshElement}
 use Rattle.vol_format.specs.declared.Mesh.{Mesh}
 use Rattle.mesh_check.specs.Parts.{NamesItsPoints, row_edge, polygons_in, boundary_rows}
 use Rattle.mesh_check.specs.Whole.{DoesHang}
-use Rattle.mesh_check.specs.Tight.{HasNoOtherFault, IsNamed, IsRowFree, IsTight}
+use Rattle.mesh_check.specs.Tight.{HasNoOtherFault, IsNamed, IsRowFree, IsSpared, IsTight}
 use Rattle.mesh_check.proofs.OpenSides.{any_one}
 use Rattle.mesh_check.proofs.Domains.{domains_above}
 use Rattle.mesh_check.proofs.Numbered.{numbered}
@@ -167,8 +167,9 @@ module _ (g : PlanarMap) (m : Mesh) (geometry : IsGeometry g) (names : NamesItsP
         | inr b ↦ at_edge (λ e. ¬ (IsOnOpen v e.a e.b)) x (boundary_rows m.points domain m.edges) (boundary_free m.points domain v m.edges free) b o
       ]
 
-  pub none_hangs : IsTight m → (i k : ℕ) → ¬ (DoesHang m.points m.elements i k)
-  none_hangs t i k hang = named (t.named i hang.point_in_list)
+  -- a corner hangs nowhere, where no point is in an open edge row
+  pub spared : (i k : ℕ) → IsSpared m i → ¬ (DoesHang m.points m.elements i k)
+  spared i k t hang = named t.named
     where
       nowhere : Point
       nowhere = record { x = pos 0; y = pos 0 }
@@ -193,3 +194,6 @@ module _ (g : PlanarMap) (m : Mesh) (geometry : IsGeometry g) (names : NamesItsP
         where
           sided : ((q : ℕ) × (x : Edge) × (q < length (sides (polygon_at m k e))) × (slice_index_or (sides (polygon_at m k e)) q x ≡ x) × IsOnOpen v x.a x.b) → ⊥
           sided (q, x, h, at, o) = corner_free j k e v x l hang.element_in_list free (subst (λ (f : MeshElement). IsCorner v (corners_of m.points f.corners)) (sym is) (corner e c)) (in_at (sides (polygon_at m k e)) q x h at) o
+
+  pub none_hangs : IsTight m → (i k : ℕ) → ¬ (DoesHang m.points m.elements i k)
+  none_hangs t i k hang = spared i k (record { named = t.named i hang.point_in_list; free = t.free }) hang

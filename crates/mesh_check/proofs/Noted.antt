@@ -1,14 +1,20 @@
--- Points that are noted as corners, corner by corner and element by element.
-use Rattle.std.proofs.Common.{Option, None, ◌≡◌, ◌≢◌, ◌⊎◌, ℕ, ◌+◌, ◌-◌, ◌<◌, ◌≤◌, Bool, true, List, [], ◌∷◌, length, slice_index_or, set, inl, inr, sym, ◌∙◌, subst, arith}
+-- Points that are noted as corners, corner by corner and element by element; edge rows with no point in them.
+use Rattle.std.proofs.Common.{◌≡◌, ◌≢◌, ◌⊎◌, ℕ, ◌+◌, ◌-◌, ◌<◌, ◌≤◌, Bool, true, List, [], length, slice_index_or, set, All, inl, inr, sym, ◌∙◌, subst, arith}
+use lib.IntN.{pos}
 use Rattle.std.proofs.lemmas.List.{get_or_default, get_or-set_other}
 use Rattle.std.specs.List.{Contains}
 use Rattle.state_law.specs.State.{IsListed}
 use Rattle.vol_format.specs.declared.MeshElement.{MeshElement}
 use Rattle.grid_geom.specs.declared.Point.{Point}
-use Rattle.wind_law.specs.Chains.{edge}
-use Rattle.mesh_check.specs.Least.{IsLeastNumber}
-use Rattle.mesh_check.specs.Hung.{IsHungIn}
-use Rattle.mesh_check.specs.Tight.{IsNamed}
+use Rattle.grid_geom.specs.declared.Edge.{Edge}
+use Rattle.grid_geom.specs.Sides.{IsOnOpen}
+use Rattle.digital_tree.specs.declared.Entry.{Entry}
+use Rattle.vol_format.specs.declared.EdgeRow.{EdgeRow}
+use Rattle.mesh_check.specs.Parts.{row_edge}
+use Rattle.mesh_check.specs.Near.{HasEdge, IsFreeOf}
+use Rattle.mesh_check.specs.Tight.{IsNamed, IsRowFree}
+use Rattle.mesh_check.proofs.Kept.{has_some, has_with}
+use Rattle.mesh_check.proofs.OpenSides.{of_one}
 
 -- ---- corner by corner
 -- n is one of the first `end` numbers
@@ -68,6 +74,16 @@ named_all noted elements end h i l t = found (h i true l t)
     found a = (a.at, slice_index_or elements a.at none, a.in_list, get_or_default elements a.at (slice_index_or elements a.at none) none a.in_list, a.names none)
 
 -- ---- edge rows
--- where the least point in an open edge is absent, none is in it
-pub none_in : (points : List Point) (a b c d : Point) (r : Option ℕ) → a ≡ c → b ≡ d → r ≡ None → IsLeastNumber (IsHungIn points (edge a b ∷ [])) r → (i : ℕ) → ¬ (IsHungIn points (edge c d ∷ []) i)
-none_in points a b c d r e f g h = subst (λ (p : Point). (i : ℕ) → ¬ (IsHungIn points (edge p d ∷ []) i)) e (subst (λ (p : Point). (i : ℕ) → ¬ (IsHungIn points (edge a p ∷ []) i)) f (subst (IsLeastNumber (IsHungIn points (edge a b ∷ []))) g h))
+-- where no point is in an open edge of a tree that has all rows, none is in an open edge row
+pub rows_free : (points : List Point) (es : List (Entry Edge)) (rows : List EdgeRow) → ((i : ℕ) (d : Point) → i < length points → IsFreeOf es (slice_index_or points i d)) → All (λ row. HasEdge (row_edge points row) es) rows → All (IsRowFree points) rows
+rows_free points es rows free all k d l i h = has_some (λ e. (¬ (IsOnOpen v e.value.a e.value.b)) × (e.value ≡ x)) ⊥ (λ e y. y.0 (subst (λ (f : Edge). IsOnOpen v f.a f.b) (sym y.1) (of_one (λ f. IsOnOpen v f.a f.b) x (h.hangs nowhere)))) es
+    (has_with (λ e. ¬ (IsOnOpen v e.value.a e.value.b)) (λ e. e.value ≡ x) es (free i nowhere h.in_list) (all k d l))
+  where
+    nowhere : Point
+    nowhere = record { x = pos 0; y = pos 0 }
+
+    v : Point
+    v = slice_index_or points i nowhere
+
+    x : Edge
+    x = row_edge points (slice_index_or rows k d)

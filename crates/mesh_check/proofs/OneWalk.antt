@@ -1,5 +1,9 @@
 -- Edge rows walk in one way: where a walk stands and doesn't go on, no walk goes on.
 use Rattle.std.proofs.Common.{◌≡◌, ◌≢◌, ◌⊎◌, ℕ, zero, suc, ◌+◌, List, [], ◌∷◌, ◌++◌, length, drop, slice_index_or, inl, inr, refl, sym, ◌∙◌, ap, subst, arith}
+use lib.IntN.{ℤ}
+use lib.Signed.{◌≤ℤ◌}
+use Rattle.std.specs.Int.{int_max, int_min}
+use Rattle.std.proofs.lemmas.Int.{ints}
 use Rattle.std.proofs.lemmas.List.{append_assoc, append-nil, append_cancel_left, length-append}
 use Rattle.grid_geom.specs.declared.Point.{Point}
 use Rattle.grid_geom.proofs.Lines.{same_place}
@@ -8,9 +12,12 @@ use Rattle.geom_check.specs.Boundary.{edge_of}
 use Rattle.vol_format.specs.declared.EdgeRow.{EdgeRow}
 use Rattle.mesh_check.specs.Parts.{row_edge}
 use Rattle.mesh_check.specs.Walked.{Places, IsStep, DoesLead, WalksFirst, DoWalk}
-use Rattle.mesh_check.proofs.OpenSides.{equal_both}
 
 -- ---- along one segment
+-- what is between two equal numbers is one of them
+equal_both : (u w z : ℤ) → u ≡ w → int_min u w ≤ℤ z → z ≤ℤ int_max u w → u ≡ z
+equal_both u w z e h l = grind (arith, ints)
+
 -- there is no step on from a segment's last place
 no_step_on : (ps : Places) (n : ℕ) (s : Segment) (row : EdgeRow) → ¬ (IsStep ps n s (edge_of ps.of_geometry s).b row)
 no_step_on ps n s row t = elim t.moves.along [

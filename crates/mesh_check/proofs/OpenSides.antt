@@ -1,212 +1,57 @@
--- Points in open sides: between a side's ends in the order of places, found side by side and element by element.
-use Rattle.std.proofs.Common.{◌≡◌, ◌⊎◌, ℕ, zero, suc, ◌+◌, ◌<◌, ◌≤◌, Bool, true, false, List, [], ◌∷◌, length, slice_index_or, Any, Option, Some, None, IfSome, IfNone, MatchOption, IsTrue, inl, inr, refl, sym, ◌∙◌, ap, subst, arith}
-use lib.IntN.{ℤ, pos, ◌-ℤ◌, ◌*ℤ◌}
-use lib.Signed.{◌<ℤ◌, ◌≤ℤ◌}
-use Rattle.std.specs.Int.{int_max, int_min}
-use Rattle.std.proofs.lemmas.Int.{ints}
-use Rattle.std.proofs.lemmas.Bool.{cases_lt, cases_order}
-use Rattle.std.proofs.lemmas.List.{get_or_default}
+-- Points in open sides: found hit by hit, side by side and element by element.
+use Rattle.std.proofs.Common.{◌≡◌, ◌⊎◌, ℕ, zero, suc, ◌+◌, ◌<◌, ◌≤◌, Bool, true, List, [], ◌∷◌, ◌++◌, length, slice_index_or, take, filter, All, Any, Option, Some, None, IfSome, IfNone, MatchOption, inl, inr, refl, sym, ◌∙◌, ap, subst, arith}
+use lib.IntN.{pos}
+use Rattle.std.specs.List.{AllByRecursion}
+use Rattle.std.proofs.lemmas.Bool.{cases_lt}
+use Rattle.std.proofs.lemmas.List.{get_or_default, take_more, take_all}
 use Rattle.grid_geom.specs.declared.Point.{Point}
 use Rattle.grid_geom.specs.declared.Edge.{Edge}
+use Rattle.grid_geom.specs.declared.Bounds.{Bounds}
 use Rattle.grid_geom.specs.Sides.{IsOnOpen}
 use Rattle.grid_geom.specs.Polygon.{sides}
-use Rattle.grid_geom.proofs.Ring.{ring, var, ◌⊗◌, ◌⊖◌}
-use Rattle.grid_geom.proofs.Signs.{ordered, zero_factor}
-use Rattle.grid_geom.proofs.Lines.{same_place}
+use Rattle.digital_tree.specs.declared.Entry.{Entry}
+use Rattle.digital_tree.specs.Entries.{is_hit}
 use Rattle.wind_law.specs.Chains.{edge}
 use Rattle.state_law.specs.State.{corners_of}
-use Rattle.state_law.proofs.Untangled.{open_back}
 use Rattle.vol_format.specs.declared.MeshElement.{MeshElement}
-use Rattle.mesh_check.specs.declared.spots.Spot.{Spot}
 use Rattle.mesh_check.specs.Whole.{IsInOpenSide, DoesHang}
-use Rattle.mesh_check.specs.Spots.{IsLower, spot_place, IsBefore, AreSpots}
 use Rattle.mesh_check.specs.Least.{NotAfter, IsLeast, IsLesser, IsLeastNumber, least_of}
-use Rattle.mesh_check.specs.Hung.{IsHungIn, IsMetAt}
+use Rattle.mesh_check.specs.Near.{IsInBounds, IsPlaced, IsPointEntry, AreKept}
+use Rattle.mesh_check.specs.Hung.{IsHungIn, IsMetAt, IsMetIn}
 use Rattle.mesh_check.proofs.LeastPairs.{least_same, least_more, number_same, number_either}
-use Rattle.mesh_check.proofs.Twins.{lower_itself, lower_both}
+use Rattle.mesh_check.proofs.Kept.{has_map, has_either, has_some, has_with, has_first, has_second, has_parts, has_hit, had_hit, polygon_inside, placed_hit}
 
--- ---- a point of an open side is between its ends
-least_left : (u w z : ℤ) → u <ℤ w → int_min u w ≤ℤ z → u ≤ℤ z
-least_left u w z h l = grind (arith, ints)
-
-greatest_left : (u w z : ℤ) → u <ℤ w → z ≤ℤ int_max u w → z ≤ℤ w
-greatest_left u w z h l = grind (arith, ints)
-
-pub equal_both : (u w z : ℤ) → u ≡ w → int_min u w ≤ℤ z → z ≤ℤ int_max u w → u ≡ z
-equal_both u w z e h l = grind (arith, ints)
-
--- on a line that isn't upright, what is in the column of an end is that end
-in_column : (dx dy x y : ℤ) → dx *ℤ y -ℤ dy *ℤ x ≡ pos 0 → pos 0 <ℤ dx → x ≡ pos 0 → y ≡ pos 0
-in_column dx dy x y e h f = zero_factor dx y (level (dx *ℤ y) (dy *ℤ x) (subst (λ (z : ℤ). dy *ℤ z ≡ pos 0) (sym f) (nothing dy)) e) h
-  where
-    nothing : (z : ℤ) → z *ℤ pos 0 ≡ pos 0
-    nothing z = omega (arith, ints)
-
-    level : (m n : ℤ) → n ≡ pos 0 → m -ℤ n ≡ pos 0 → m ≡ pos 0
-    level m n e f = omega (arith, ints)
-
--- seen from the other end
-from_end : (ax ay bx by px py : ℤ) → (bx -ℤ ax) *ℤ (py -ℤ ay) -ℤ (by -ℤ ay) *ℤ (px -ℤ ax) ≡ pos 0 → ax <ℤ bx → px ≡ bx → py ≡ by
-from_end ax ay bx by px py e h f = omega (arith, ints, zero_factor (bx -ℤ ax) (py -ℤ by) (turned (bx -ℤ ax) (by -ℤ ay) (py -ℤ ay) (px -ℤ ax) (py -ℤ by) e (omega (arith, ints)) (omega (arith, ints))) (omega (arith, ints)))
-  where
-    turned : (dx dy y x r : ℤ) → dx *ℤ y -ℤ dy *ℤ x ≡ pos 0 → x ≡ dx → r ≡ y -ℤ dy → dx *ℤ r ≡ pos 0
-    turned dx dy y x r e f g = subst (λ (z : ℤ). dx *ℤ z ≡ pos 0) (sym g) (spread dx dy y (subst (λ (z : ℤ). dx *ℤ y -ℤ dy *ℤ z ≡ pos 0) f e))
-      where
-        spread : (dx dy y : ℤ) → dx *ℤ y -ℤ dy *ℤ dx ≡ pos 0 → dx *ℤ (y -ℤ dy) ≡ pos 0
-        spread dx dy y e = ring (dx ∷ dy ∷ y ∷ []) (var 0 ⊗ (var 2 ⊖ var 1)) (var 0 ⊗ var 2 ⊖ var 1 ⊗ var 0) refl ∙ e
-
-above_start : (p a b : Point) → IsOnOpen p a b → IsLower a b → IsLower a p
-above_start p a b o (inl h) = elim (ordered a.x p.x) [
-  | inl l ↦ inl l
-  | inr r ↦ elim r [
-    | inl e ↦ absurd (o.not_a (same_place p a (sym e) (omega (arith, ints, in_column (b.x -ℤ a.x) (b.y -ℤ a.y) (p.x -ℤ a.x) (p.y -ℤ a.y) o.straight (omega (arith, ints)) (omega (arith, ints))))))
-    | inr l ↦ absurd (clash a.x p.x l (least_left a.x b.x p.x h o.right_of_least))
-  ]
-]
-  where
-    clash : (u z : ℤ) → z <ℤ u → u ≤ℤ z → ⊥
-    clash u z h k = omega (arith, ints)
-above_start p a b o (inr h) = elim (ordered a.y p.y) [
-  | inl l ↦ inr (equal_both a.x b.x p.x h.0 o.right_of_least o.left_of_greatest, l)
-  | inr r ↦ elim r [
-    | inl e ↦ absurd (o.not_a (same_place p a (sym (equal_both a.x b.x p.x h.0 o.right_of_least o.left_of_greatest)) (sym e)))
-    | inr l ↦ absurd (clash a.y p.y l (least_left a.y b.y p.y h.1 o.above_least))
-  ]
-]
-  where
-    clash : (u z : ℤ) → z <ℤ u → u ≤ℤ z → ⊥
-    clash u z h k = omega (arith, ints)
-
-below_end : (p a b : Point) → IsOnOpen p a b → IsLower a b → IsLower p b
-below_end p a b o (inl h) = elim (ordered p.x b.x) [
-  | inl l ↦ inl l
-  | inr r ↦ elim r [
-    | inl e ↦ absurd (o.not_b (same_place p b e (from_end a.x a.y b.x b.y p.x p.y o.straight h e)))
-    | inr l ↦ absurd (clash b.x p.x l (greatest_left a.x b.x p.x h o.left_of_greatest))
-  ]
-]
-  where
-    clash : (w z : ℤ) → w <ℤ z → z ≤ℤ w → ⊥
-    clash w z h k = omega (arith, ints)
-below_end p a b o (inr h) = elim (ordered p.y b.y) [
-  | inl l ↦ inr (sym (equal_both a.x b.x p.x h.0 o.right_of_least o.left_of_greatest) ∙ h.0, l)
-  | inr r ↦ elim r [
-    | inl e ↦ absurd (o.not_b (same_place p b (sym (equal_both a.x b.x p.x h.0 o.right_of_least o.left_of_greatest) ∙ h.0) e))
-    | inr l ↦ absurd (clash b.y p.y l (greatest_left a.y b.y p.y h.1 o.below_greatest))
-  ]
-]
-  where
-    clash : (w z : ℤ) → w <ℤ z → z ≤ℤ w → ⊥
-    clash w z h k = omega (arith, ints)
-
--- an open side with a point in it has two ends, and one is lower
-which_lower : (p a b : Point) → IsOnOpen p a b → ¬ (IsLower a b) → IsLower b a
-which_lower p a b o n = elim (ordered a.x b.x) [
-  | inl l ↦ absurd (n (inl l))
-  | inr r ↦ elim r [
-    | inr l ↦ inl l
-    | inl e ↦ elim (ordered a.y b.y) [
-      | inl l ↦ absurd (n (inr (e, l)))
-      | inr s ↦ elim s [
-        | inr l ↦ inr (sym e, l)
-        | inl f ↦ absurd (o.not_a (same_place p a (sym (equal_both a.x b.x p.x e o.right_of_least o.left_of_greatest)) (sym (equal_both a.y b.y p.y f o.above_least o.below_greatest))))
-      ]
-    ]
-  ]
-]
-
-pub lower_first : (a b : Point) (r : Bool) → (IsTrue r → IsLower a b) × (IsLower a b → IsTrue r) → r ≡ true → (p : Point) → IsOnOpen p a b → IsLower a p × IsLower p b
-lower_first a b r t e p o = (above_start p a b o (t.0 e), below_end p a b o (t.0 e))
-
-pub lower_second : (a b : Point) (r : Bool) → (IsTrue r → IsLower a b) × (IsLower a b → IsTrue r) → r ≡ false → (p : Point) → IsOnOpen p a b → IsLower b p × IsLower p a
-lower_second a b r t e p o = let l : IsLower b a = which_lower p a b o (λ h. let i = t.1 h in absurd (cc)) in (above_start p b a (open_back p b a o) l, below_end p b a (open_back p b a o) l)
-
--- ---- the spots lower than a place
-abbrev some : Spot
-some = record { x = pos 0; y = pos 0; index = 0 }
-
--- a spot before another is no higher
-upto : (s t : Spot) (p : Point) → IsBefore s t → IsLower (spot_place t) p → IsLower (spot_place s) p
-upto s t p (inl h) l = lower_both (spot_place s) (spot_place t) p h l
-upto s t p (inr h) l = subst (λ (q : Point). IsLower q p) (sym h.0) l
-
-pub lower_upto : (points : List Point) (spots : List Spot) (at : Point) (middle : ℕ) (d : Spot) → AreSpots points spots → middle < length spots → IsLower (spot_place (slice_index_or spots middle d)) at → (k : ℕ) (e : Spot) → k < middle + 1 → IsLower (spot_place (slice_index_or spots k e)) at
-lower_upto points spots at middle d a h l k e j = elim (cases_lt k middle) [
-  | inl n ↦ upto (slice_index_or spots k e) (slice_index_or spots middle e) at (a.ordered k middle e n h) (subst (λ (s : Spot). IsLower (spot_place s) at) (get_or_default spots middle d e h) l)
-  | inr n ↦ let m : middle ≡ k = omega arith in subst (λ (n : ℕ). IsLower (spot_place (slice_index_or spots n e)) at) m (subst (λ (s : Spot). IsLower (spot_place s) at) (get_or_default spots middle d e h) l)
-]
-
--- ---- walking along a side
--- n is the position of a spot before `end` in the open side from a to b
-pub record IsMet (spots : List Spot) (a b : Point) (end n : ℕ) : Type 0 where
-  pub at : ℕ
-  pub below : at < end
-  pub in_list : at < length spots
-  pub met : (d : Spot) → IsMetAt (slice_index_or spots at d) a b n
-
-pub none_met : (spots : List Spot) (a b low : Point) (start : ℕ) → ((k : ℕ) (d : Spot) → k < start → IsLower (spot_place (slice_index_or spots k d)) low) → ((p : Point) → IsOnOpen p a b → IsLower low p) → IsLeastNumber (IsMet spots a b start) None
-none_met spots a b low start h side i m = lower_itself low (lower_both low (spot_place (slice_index_or spots m.at some)) low (side (spot_place (slice_index_or spots m.at some)) (m.met some).on) (h m.at some m.below))
-
-pub more_met : (spots : List Spot) (a b : Point) (i : ℕ) (d : Spot) (best r : Option ℕ) → i < length spots → IsLeastNumber (IsMetAt (slice_index_or spots i d) a b) r → IsLeastNumber (IsMet spots a b i) best → IsLeastNumber (IsMet spots a b (i + 1)) (least_of best r)
-more_met spots a b i d best r h here before = number_either (IsMet spots a b i) (IsMetAt (slice_index_or spots i d) a b) (IsMet spots a b (i + 1)) best r before here
-    (λ n m. record { at = m.at; below = omega (arith, m.below); in_list = m.in_list; met = m.met })
-    (λ n m. record { at = i; below = omega arith; in_list = h; met = λ e. subst (λ (s : Spot). IsMetAt s a b n) (get_or_default spots i d e h) m })
-    (λ n m. elim (cases_lt m.at i) [
-      | inl k ↦ inl (record { at = m.at; below = k; in_list = m.in_list; met = m.met })
-      | inr k ↦ let e : m.at ≡ i = omega (arith, m.below) in inr (subst (λ (k : ℕ). IsMetAt (slice_index_or spots k d) a b n) e (m.met d))
-    ])
-
+-- ---- hit by hit
 pub any_one : (P : Edge → Type 0) (e : Edge) → P e → Any P (e ∷ [])
 any_one P e p = (0, e, omega arith, refl, p)
 
-of_one : (P : Edge → Type 0) (e : Edge) → Any P (e ∷ []) → P e
+pub of_one : (P : Edge → Type 0) (e : Edge) → Any P (e ∷ []) → P e
 of_one P e (zero, f, h, i, p) = subst P (sym i) p
 of_one P e (suc k, f, h, i, p) = absurd (omega (arith, h))
 
--- each point in the side is met
-met_hung : (points : List Point) (spots : List Spot) (a b : Point) (n : ℕ) → AreSpots points spots → IsMet spots a b (length spots) n → IsHungIn points (edge a b ∷ []) n
-met_hung points spots a b n s m = record {
-  in_list = below (slice_index_or spots m.at some).index n (length points) (m.met some).index (s.each m.at some m.in_list).in_list;
-  hangs = λ p. any_one (λ e. IsOnOpen (slice_index_or points n p) e.a e.b) (edge a b) (subst (λ (q : Point). IsOnOpen q a b) (sym ((s.each m.at some m.in_list).place p) ∙ ap (λ (k : ℕ). slice_index_or points k p) (m.met some).index) (m.met some).on);
-}
-  where
-    below : (m n k : ℕ) → m ≡ n → m < k → n < k
-    below m n k e h = omega arith
+-- an entry's place is in an open side of a list
+abbrev IsMetOn : List Edge → ℕ → Entry ℕ → Type 0
+IsMetOn edges n e = IsInOpenSide edges e.bounds.lo × (e.value ≡ n)
 
-hung_met : (points : List Point) (spots : List Spot) (a b : Point) (n : ℕ) → AreSpots points spots → IsHungIn points (edge a b ∷ []) n → IsMet spots a b (length spots) n
-hung_met points spots a b n s h = placed (s.all n h.in_list)
-  where
-    p : Point
-    p = record { x = pos 0; y = pos 0 }
+abbrev on_side : Point → Edge → Type 0
+on_side p e = IsOnOpen p e.a e.b
 
-    placed : ((k : ℕ) × (t : Spot) × (k < length spots) × (slice_index_or spots k t ≡ t) × (t.index ≡ n)) → IsMet spots a b (length spots) n
-    placed (k, t, l, e, i) = record {
-      at = k;
-      below = l;
-      in_list = l;
-      met = λ d. subst (λ (u : Spot). IsMetAt u a b n) (sym e ∙ get_or_default spots k t d l) (record {
-        on = subst (λ (q : Point). IsOnOpen q a b) (ap (λ (m : ℕ). slice_index_or points m p) (sym i) ∙ ap (λ (u : Spot). slice_index_or points u.index p) (sym e) ∙ (s.each k t l).place p ∙ ap spot_place e) (of_one (λ e. IsOnOpen (slice_index_or points n p) e.a e.b) (edge a b) (h.hangs p));
-        index = i;
-      });
-    }
-
-pub all_met : (points : List Point) (spots : List Spot) (a b : Point) (end : ℕ) (best : Option ℕ) → AreSpots points spots → length spots ≤ end → IsLeastNumber (IsMet spots a b end) best → IsLeastNumber (IsHungIn points (edge a b ∷ [])) best
-all_met points spots a b end best s h l = number_same (IsMet spots a b end) (IsHungIn points (edge a b ∷ [])) best l
-    (λ n m. met_hung points spots a b n s (record { at = m.at; below = m.in_list; in_list = m.in_list; met = m.met }))
-    (λ n m. let k = hung_met points spots a b n s m in record { at = k.at; below = omega (arith, k.below); in_list = k.in_list; met = k.met })
-
--- from a spot on that isn't lower than the higher end, none is met
-pub met_before : (points : List Point) (spots : List Spot) (a b high : Point) (i : ℕ) (d : Spot) (best : Option ℕ) → AreSpots points spots → i < length spots → ¬ (IsLower (spot_place (slice_index_or spots i d)) high) → ((p : Point) → IsOnOpen p a b → IsLower p high)
-    → IsLeastNumber (IsMet spots a b i) best → IsLeastNumber (IsHungIn points (edge a b ∷ [])) best
-met_before points spots a b high i d best s h n side l = all_met points spots a b (length spots) best s (omega arith) (number_same (IsMet spots a b i) (IsMet spots a b (length spots)) best l
-    (λ k m. record { at = m.at; below = m.in_list; in_list = m.in_list; met = m.met })
-    (λ k m. elim (cases_order m.at i) [
-      | inl e ↦ absurd (n (subst (λ (j : ℕ). IsLower (spot_place (slice_index_or spots j d)) high) e (side (spot_place (slice_index_or spots m.at d)) (m.met d).on)))
-      | inr r ↦ elim r [
-        | inl j ↦ record { at = m.at; below = j; in_list = m.in_list; met = m.met }
-        | inr j ↦ absurd (n (upto (slice_index_or spots i d) (slice_index_or spots m.at d) high (s.ordered i m.at d j m.in_list) (side (spot_place (slice_index_or spots m.at d)) (m.met d).on)))
-      ]
+pub more_met : (hits : List (Entry ℕ)) (a b : Point) (i : ℕ) (d : Entry ℕ) (best r : Option ℕ) → i < length hits → IsLeastNumber (IsMetAt (slice_index_or hits i d) a b) r → IsLeastNumber (IsMetIn (take i hits) (edge a b ∷ [])) best
+    → IsLeastNumber (IsMetIn (take (i + 1) hits) (edge a b ∷ [])) (least_of best r)
+more_met hits a b i d best r h here before = subst (λ (es : List (Entry ℕ)). IsLeastNumber (IsMetIn es (edge a b ∷ [])) (least_of best r)) (sym (take_more hits i d h))
+    (number_either (IsMetIn (take i hits) (edge a b ∷ [])) (IsMetAt hit a b) (IsMetIn (take i hits ++ hit ∷ []) (edge a b ∷ [])) best r before here
+    (λ n m. record { met = has_first (IsMetOn (edge a b ∷ []) n) (take i hits) (hit ∷ []) m.met })
+    (λ n m. record { met = has_second (IsMetOn (edge a b ∷ []) n) (take i hits) (hit ∷ []) (inl (any_one (on_side hit.bounds.lo) (edge a b) m.on, m.position)) })
+    (λ n m. elim (has_parts (IsMetOn (edge a b ∷ []) n) (take i hits) (hit ∷ []) m.met) [
+      | inl k ↦ inl (record { met = k })
+      | inr k ↦ elim k [ inl x ↦ inr (record { on = of_one (on_side hit.bounds.lo) (edge a b) x.0; position = x.1 }) | inr x ↦ absurd x ]
     ]))
+  where
+    hit : Entry ℕ
+    hit = slice_index_or hits i d
+
+pub all_met : (hits : List (Entry ℕ)) (a b : Point) (end : ℕ) (best : Option ℕ) → length hits ≤ end → IsLeastNumber (IsMetIn (take end hits) (edge a b ∷ [])) best → IsLeastNumber (IsMetIn hits (edge a b ∷ [])) best
+all_met hits a b end best h l = subst (λ (es : List (Entry ℕ)). IsLeastNumber (IsMetIn es (edge a b ∷ [])) best) (take_all end hits h) l
 
 -- ---- side by side
 any_rest : (P : Edge → Type 0) (e : Edge) (es : List Edge) → Any P es → Any P (e ∷ es)
@@ -219,17 +64,26 @@ any_either : (P : Edge → Type 0) (e : Edge) (es : List Edge) → Any P (e ∷ 
 any_either P e es (zero, f, h, i, p) = inl (subst P (sym i) p)
 any_either P e es (suc k, f, h, i, p) = inr (k, f, omega (arith, h), i, p)
 
-pub next_side : (points : List Point) (e : Edge) (es : List Edge) (m n : Option ℕ) → IsLeastNumber (IsHungIn points (e ∷ [])) m → IsLeastNumber (IsHungIn points es) n → IsLeastNumber (IsHungIn points (e ∷ es)) (least_of m n)
-next_side points e es m n h k = number_either (IsHungIn points (e ∷ [])) (IsHungIn points es) (IsHungIn points (e ∷ es)) m n h k
-    (λ i l. record { in_list = l.in_list; hangs = λ p. any_first (λ f. IsOnOpen (slice_index_or points i p) f.a f.b) e es (of_one (λ f. IsOnOpen (slice_index_or points i p) f.a f.b) e (l.hangs p)) })
-    (λ i l. record { in_list = l.in_list; hangs = λ p. any_rest (λ f. IsOnOpen (slice_index_or points i p) f.a f.b) e es (l.hangs p) })
-    (λ i l. elim (any_either (λ f. IsOnOpen (slice_index_or points i none) f.a f.b) e es (l.hangs none)) [
-      | inl o ↦ inl (record { in_list = l.in_list; hangs = λ p. any_one (λ f. IsOnOpen (slice_index_or points i p) f.a f.b) e (subst (λ (q : Point). IsOnOpen q e.a e.b) (get_or_default points i none p l.in_list) o) })
-      | inr o ↦ inr (record { in_list = l.in_list; hangs = λ p. subst (λ (q : Point). IsInOpenSide es q) (get_or_default points i none p l.in_list) o })
-    ])
-  where
-    none : Point
-    none = record { x = pos 0; y = pos 0 }
+pub next_side : (hits : List (Entry ℕ)) (e : Edge) (es : List Edge) (m n : Option ℕ) → IsLeastNumber (IsMetIn hits (e ∷ [])) m → IsLeastNumber (IsMetIn hits es) n → IsLeastNumber (IsMetIn hits (e ∷ es)) (least_of m n)
+next_side hits e es m n h k = number_either (IsMetIn hits (e ∷ [])) (IsMetIn hits es) (IsMetIn hits (e ∷ es)) m n h k
+    (λ i l. record { met = has_map (IsMetOn (e ∷ []) i) (IsMetOn (e ∷ es) i) (λ f x. (any_first (on_side f.bounds.lo) e es (of_one (on_side f.bounds.lo) e x.0), x.1)) hits l.met })
+    (λ i l. record { met = has_map (IsMetOn es i) (IsMetOn (e ∷ es) i) (λ f x. (any_rest (on_side f.bounds.lo) e es x.0, x.1)) hits l.met })
+    (λ i l. elim (has_either (IsMetOn (e ∷ es) i) (IsMetOn (e ∷ []) i) (IsMetOn es i) (λ f x. elim (any_either (on_side f.bounds.lo) e es x.0) [
+      | inl o ↦ inl (any_one (on_side f.bounds.lo) e o, x.1)
+      | inr o ↦ inr (o, x.1)
+    ]) hits l.met) [ inl o ↦ inl (record { met = o }) | inr o ↦ inr (record { met = o }) ])
+
+pub no_side : (hits : List (Entry ℕ)) → IsLeastNumber (IsMetIn hits []) None
+no_side hits i h = has_some (IsMetOn [] i) ⊥ (λ e x. let l = x.0.2 in absurd (omega (arith, l))) hits h.met
+
+-- what is in an open side is among the entries that a box round the polygon picks out
+pub met_by_hits : (b : Bounds) (es : List (Entry ℕ)) (cs : List Point) (r : Option ℕ) → AllByRecursion IsPlaced es → All (IsInBounds b) cs → IsLeastNumber (IsMetIn (filter (is_hit b) es) (sides cs)) r → IsLeastNumber (IsMetIn es (sides cs)) r
+met_by_hits b es cs r placed all l = number_same (IsMetIn (filter (is_hit b) es) (sides cs)) (IsMetIn es (sides cs)) r l
+    (λ n m. record { met = had_hit (is_hit b) (IsMetOn (sides cs) n) es m.met })
+    (λ n m. record {
+      met = has_map (λ e. IsPlaced e × IsMetOn (sides cs) n e) (IsMetOn (sides cs) n) (λ e x. x.1) (filter (is_hit b) es)
+          (has_hit (is_hit b) (λ e. IsPlaced e × IsMetOn (sides cs) n e) (λ e x. placed_hit b e x.0 (polygon_inside b cs e.bounds.lo all x.1.0)) es (has_with IsPlaced (IsMetOn (sides cs) n) es placed m.met));
+    })
 
 -- ---- element by element
 -- point i is in an open side of an element k before `end`
@@ -243,6 +97,33 @@ hung_at points elements i k d h l = record {
   element_in_list = h;
   hangs = λ p e. subst (λ (f : MeshElement). IsInOpenSide (sides (corners_of points f.corners)) (slice_index_or points i p)) (get_or_default elements k d e h) (l.hangs p);
 }
+
+-- the points of an element's open sides are those of its entries, where those that are passed over hang nowhere
+pub hung_by_entries : (points : List Point) (passed : List Bool) (elements : List MeshElement) (k : ℕ) (d : MeshElement) (es : List (Entry ℕ)) (r : Option ℕ) → AreKept points passed (length points) es
+    → ((i k : ℕ) → i < length points → slice_index_or passed i true ≡ true → ¬ (DoesHang points elements i k)) → k < length elements
+    → IsLeastNumber (IsMetIn es (sides (corners_of points (slice_index_or elements k d).corners))) r → IsLeastNumber (IsHungIn points (sides (corners_of points (slice_index_or elements k d).corners))) r
+hung_by_entries points passed elements k d es r kept unhung l least = number_same (IsMetIn es edges) (IsHungIn points edges) r least to back
+  where
+    edges : List Edge
+    edges = sides (corners_of points (slice_index_or elements k d).corners)
+
+    nowhere : Point
+    nowhere = record { x = pos 0; y = pos 0 }
+
+    to : (n : ℕ) → IsMetIn es edges n → IsHungIn points edges n
+    to n m = has_some (λ e. IsPointEntry points e × IsMetOn edges n e) (IsHungIn points edges n) (λ e x. record {
+      in_list = subst (λ (i : ℕ). i < length points) x.1.1 x.0.in_list;
+      hangs = λ p. subst (IsInOpenSide edges) (sym (x.0.place p) ∙ ap (λ (i : ℕ). slice_index_or points i p) x.1.1) x.1.0;
+    }) es (has_with (IsPointEntry points) (IsMetOn edges n) es kept.each m.met)
+
+    back : (n : ℕ) → IsHungIn points edges n → IsMetIn es edges n
+    back n h = elim (kept.all n h.in_list) [
+      | inl t ↦ absurd (unhung n k h.in_list t (hung_at points elements n k d l h))
+      | inr m ↦ record {
+        met = has_map (λ e. IsPointEntry points e × (e.value ≡ n)) (IsMetOn edges n) (λ e x. (subst (IsInOpenSide edges) (ap (λ (i : ℕ). slice_index_or points i nowhere) (sym x.1) ∙ x.0.place nowhere) (h.hangs nowhere), x.1)) es
+            (has_with (IsPointEntry points) (λ e. e.value ≡ n) es kept.each m);
+      }
+    ]
 
 pub with_none : (points : List Point) (elements : List MeshElement) (k : ℕ) (d : MeshElement) (least : Option (ℕ × ℕ)) → k < length elements → IsLeastNumber (IsHungIn points (sides (corners_of points (slice_index_or elements k d).corners))) None
     → IsLeast (HangsBefore points elements k) least → IsLeast (HangsBefore points elements (k + 1)) least
@@ -276,6 +157,3 @@ with_found points elements k d least (Some r) (Some i) h n e s l = with_some poi
 
 pub all_hanging : (points : List Point) (elements : List MeshElement) (end : ℕ) (least : Option (ℕ × ℕ)) → length elements ≤ end → IsLeast (HangsBefore points elements end) least → IsLeast (DoesHang points elements) least
 all_hanging points elements end least h l = least_same (HangsBefore points elements end) (DoesHang points elements) least l (λ i j b. b.hangs) (λ i j g. record { before = omega (arith, g.element_in_list); hangs = g })
-
-pub no_side : (points : List Point) → IsLeastNumber (IsHungIn points []) None
-no_side points i h = let a = h.hangs (record { x = pos 0; y = pos 0 }) in absurd (omega (arith, a.2))

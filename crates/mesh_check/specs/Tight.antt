@@ -1,6 +1,7 @@
 -- Meshes in which a point can hang nowhere, by what is counted.
 --
 -- HasNoOtherFault   none of the five faults but hanging points
+-- IsSpared   a point is a corner of an element, and none is in an open edge row
 -- IsTight    each point is a corner of an element, and none is in an open edge row
 use Rattle.std.specs.Prelude.{ℕ, ◌+◌, ◌<◌, List, [], ◌∷◌, length, All, Any, Contains}
 use Rattle.grid_geom.specs.declared.Point.{Point}
@@ -28,6 +29,11 @@ IsNamed elements i = Any (λ e. Contains e.corners (i + 1)) elements
 -- no point is in the open edge row
 abbrev pub IsRowFree : List Point → EdgeRow → Type 0
 IsRowFree points row = (i : ℕ) → ¬ IsHungIn points (row_edge points row ∷ []) i
+
+-- the point at the position i is a corner of an element, and none is in an open edge row
+pub record IsSpared (m : Mesh) (i : ℕ) : Type 0 where
+  pub named : IsNamed m.elements i
+  pub free : All (IsRowFree m.points) m.edges
 
 -- each point is a corner of an element, and none is in an open edge row
 pub record IsTight (m : Mesh) : Type 0 where

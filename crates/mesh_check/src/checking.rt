@@ -1,5 +1,5 @@
 // The whole check of a mesh.
-ghost use Rattle.std.specs.Prelude.{◌≡◌, ℕ, ◌<◌, length, All, IsTrue, IfOk, IfSome, IfNone};
+ghost use Rattle.std.specs.Prelude.{◌≡◌, ℕ, ◌<◌, true, length, slice_index_or, All, IsTrue, IfOk, IfSome, IfNone};
 ghost use Rattle.geom_check.specs.Accepted.{ArePlacesDifferent};
 ghost use Rattle.geom_check.specs.Refused.{IsLeastPair};
 ghost use Rattle.mesh_check.specs.Parts.{NamesItsPoints};
@@ -12,7 +12,7 @@ use crate::elements::{first_foreign, first_not_turned};
 use crate::hanging::hanging;
 use crate::rows::row_fault;
 use crate::spots::{Spot, same_place, sorted_spots};
-use crate::tight::is_tight;
+use crate::tight::{are_all, passed_over};
 use crate::verdict::Verdict;
 use geom_check::Geometry;
 use std::alloc::{AllocError as OutOfMemory, Global};
@@ -80,17 +80,36 @@ fn least_chain(alloc: Global, g: &Geometry, m: &Mesh) -> Result<Option<Differenc
     least_difference(alloc, m.elements.as_slice(), m.edges.as_slice())
 }
 
-/// The numbers of the least point in an open side and of the least such element. Points are searched
-/// for only where elements and boundaries differ, or a point is no corner of an element or is in an
-/// open edge row: else none hangs.
+/// Which points needn't be searched for in open sides. Where elements and boundaries agree and no point
+/// is in an open edge row, these are the corners of elements.
+fn spared_points(
+    alloc: Global,
+    g: &Geometry,
+    m: &Mesh,
+    chain: &Option<Difference>,
+) -> Result<Vec<bool>, OutOfMemory>
+    requires names { NamesItsPoints m.now }
+    requires places { ArePlacesDifferent m.now.points }
+    requires rows { DoRowsWalk g.now m.now }
+    requires domains { All (HasDomainOf g.now.domains) m.now.elements }
+    requires turned { All (IsTurned m.now.points) m.now.elements }
+    requires chained { IfNone chain.now ((domain : ℕ) → 0 < domain → IsChained m.now domain) }
+    ensures long { IfOk result (λ v. length v.items ≡ length m.now.points) }
+    ensures unhung { IfOk result (λ v. (i k : ℕ) → i < length m.now.points →
+        slice_index_or v.items i true ≡ true → ¬ DoesHang m.now.points m.now.elements i k) }
+{
+    let _domains = g.domains();
+    let passed = passed_over(alloc, m, chain.is_none())?;
+    Ok(passed)
+}
+
+/// The numbers of the least point in an open side and of the least such element.
 fn hanging_point(
     alloc: Global,
     g: &Geometry,
     m: &Mesh,
-    spots: &[Spot],
     chain: &Option<Difference>,
 ) -> Result<Option<(u64, u64)>, OutOfMemory>
-    requires spots { AreSpots m.now.points spots.now }
     requires names { NamesItsPoints m.now }
     requires places { ArePlacesDifferent m.now.points }
     requires rows { DoRowsWalk g.now m.now }
@@ -102,21 +121,18 @@ fn hanging_point(
     ensures none { IfOk result (λ found. IfNone found
         ((i k : ℕ) → ¬ DoesHang m.now.points m.now.elements i k)) }
 {
-    let _domains = g.domains();
-    if chain.is_none() && is_tight(alloc, m, spots)? {
+    let points = m.points.as_slice();
+    let elements = m.elements.as_slice();
+    let spared = spared_points(alloc, g, m, chain)?;
+    let passed = spared.as_slice();
+    if are_all(passed) {
         return Ok(None);
     }
-    hanging(alloc, m.points.as_slice(), spots, m.elements.as_slice())
+    hanging(alloc, points, passed, elements)
 }
 
 /// The verdict on a mesh that has none of the first four faults.
-fn side_verdict(
-    alloc: Global,
-    g: &Geometry,
-    m: &Mesh,
-    spots: &[Spot],
-) -> Result<Verdict, OutOfMemory>
-    requires spots { AreSpots m.now.points spots.now }
+fn side_verdict(alloc: Global, g: &Geometry, m: &Mesh) -> Result<Verdict, OutOfMemory>
     requires names { NamesItsPoints m.now }
     requires places { ArePlacesDifferent m.now.points }
     requires rows { DoRowsWalk g.now m.now }
@@ -125,7 +141,7 @@ fn side_verdict(
     ensures { IfOk result (IsVerdict g.now m.now) }
 {
     let chain = least_chain(alloc, g, m)?;
-    if let Some((point, element)) = hanging_point(alloc, g, m, spots, &chain)? {
+    if let Some((point, element)) = hanging_point(alloc, g, m, &chain)? {
         return Ok(Verdict::Hanging { point, element });
     }
     match chain {
@@ -144,9 +160,9 @@ fn side_verdict(
 /// or that it is whole.
 ///
 /// The numbers in the mesh are those of its points, and these are on the grid. Takes memory for the points
-/// and the sides in their order. Takes near-linear time for a whole mesh of which few edge rows have many
-/// points between their ends from left to right; else, where sides don't agree, or a point is no corner or
-/// is in an edge row, as much more as there are points between the ends of the sides.
+/// and the sides in their order, and for a tree of the edge rows; and where a point is no corner or is in
+/// an edge row, or sides don't agree, for one of the points that are searched for. Takes near-linear time
+/// where few points are in the box of an edge row or an element.
 ///
 /// # Errors
 ///
@@ -168,5 +184,5 @@ pub fn check_mesh(alloc: Global, g: &Geometry, m: &Mesh) -> Result<Verdict, OutO
     if let Some(fault) = turn_fault(alloc, g, m)? {
         return Ok(fault);
     }
-    side_verdict(alloc, g, m, &spots)
+    side_verdict(alloc, g, m)
 }

@@ -1,148 +1,97 @@
 // Mesh points in open sides of elements.
-ghost use Rattle.std.specs.Prelude.{◌≡◌, ◌↔◌, ◌⊎◌, ℕ, ◌<◌, ◌≤◌, ◌∷◌, [], length, slice_index_or, All, MatchOption, IsTrue, IfOk, IfSome, IfNone};
-ghost use Rattle.grid_geom.specs.declared.Edge.{Edge};
+ghost use Rattle.std.specs.Prelude.{◌≡◌, ℕ, ◌<◌, ◌∷◌, [], length, slice_index_or, true, All, MatchOption, IfOk, IfSome, IfNone};
+ghost use Rattle.std.specs.List.{AllByRecursion};
 ghost use Rattle.grid_geom.specs.Bounds.{IsOnGrid};
-ghost use Rattle.grid_geom.specs.Sides.{IsOnOpen};
 ghost use Rattle.grid_geom.specs.Polygon.{sides, way_round};
 ghost use Rattle.wind_law.specs.Chains.{edge};
 ghost use Rattle.state_law.specs.State.{IsListed};
-ghost use Rattle.mesh_check.specs.declared.spots.Spot.{Spot};
 ghost use Rattle.mesh_check.specs.Whole.{DoesHang};
 ghost use Rattle.geom_check.specs.Refused.{IsLeastPair};
-ghost use Rattle.mesh_check.specs.Spots.{AreSpots, IsSpotOf, IsLower, spot_place};
 ghost use Rattle.mesh_check.specs.Least.{IsLeast, IsLesser, IsLeastNumber};
-ghost use Rattle.mesh_check.specs.Hung.{IsHungIn, IsMetAt};
+ghost use Rattle.mesh_check.specs.Near.{IsPlaced};
+ghost use Rattle.mesh_check.specs.Hung.{IsMetIn, IsMetAt};
 
 use crate::elements::polygon;
-use crate::spots::{Spot, least_of, lesser};
+use crate::near::{box_of, tree_of};
+use crate::spots::{least_of, lesser};
+use digital_tree::{Entry, Tree};
 use grid_geom::{Point, on_open};
 use std::alloc::{AllocError as OutOfMemory, Global};
 use vol_format::MeshElement;
 
-/// The place of a spot.
-fn place_of(spot: Spot) -> Point
-    ensures { result ≡ spot_place spot }
-{
-    Point {
-        x: spot.x,
-        y: spot.y,
-    }
-}
-
-/// Whether the place p is left of the place q, or below it in one column.
-fn is_lower(p: Point, q: Point) -> bool
-    ensures { IsTrue result ↔ IsLower p q }
-{
-    p.x < q.x || (p.x == q.x && p.y < q.y)
-}
-
-/// How many of the spots are lower than a place.
-fn count_lower(points: &[Point], spots: &[Spot], at: Point) -> usize
-    requires { AreSpots points.now spots.now }
-    ensures count { result ≤ length spots.now }
-    ensures lower { (k : ℕ) (d : Spot) → k < result →
-        IsLower (spot_place (slice_index_or spots.now k d)) at }
-{
-    let mut low = 0;
-    let mut high = spots.len();
-    while low < high {
-        let middle = low + (high - low) / 2;
-        if is_lower(place_of(spots[middle]), at) {
-            low = middle + 1;
-        } else {
-            high = middle;
-        }
-    }
-    low
-}
-
-/// The lower end of a side.
-fn lower_end(a: Point, b: Point) -> Point
-    ensures { (p : Point) → IsOnOpen p a b → IsLower result p }
-{
-    if is_lower(a, b) { a } else { b }
-}
-
-/// The higher end of a side.
-fn higher_end(a: Point, b: Point) -> Point
-    ensures { (p : Point) → IsOnOpen p a b → IsLower p result }
-{
-    if is_lower(a, b) { b } else { a }
-}
-
-/// The position of a spot's point, where that is in the open side from a to b.
-fn met(points: &[Point], spot: Spot, a: Point, b: Point) -> Option<usize>
-    requires spot { IsSpotOf points.now spot }
-    requires on_grid { All IsOnGrid points.now }
+/// The position of a point, where that is in the open side from a to b.
+fn met(hit: &Entry<usize>, a: Point, b: Point) -> Option<usize>
+    requires hit { IsPlaced hit.now }
     requires a_on { IsOnGrid a }
     requires b_on { IsOnGrid b }
-    ensures { IsLeastNumber (IsMetAt spot a b) result }
+    ensures { IsLeastNumber (IsMetAt hit.now a b) result }
 {
-    if on_open(points[spot.index], a, b) {
-        Some(spot.index)
+    if on_open(hit.bounds.lo, a, b) {
+        Some(hit.value)
     } else {
         None
     }
 }
 
-/// The least position of a point in the open side from a to b. Only the points between the two ends, in
-/// the order of places, are tried.
-pub fn least_on(points: &[Point], spots: &[Spot], a: Point, b: Point) -> Option<usize>
-    requires spots { AreSpots points.now spots.now }
-    requires on_grid { All IsOnGrid points.now }
+/// The least position of a point in the open side from a to b.
+fn least_on(hits: &[Entry<usize>], a: Point, b: Point) -> Option<usize>
+    requires hits { All IsPlaced hits.now }
     requires a_on { IsOnGrid a }
     requires b_on { IsOnGrid b }
-    ensures { IsLeastNumber (IsHungIn points.now (edge a b ∷ [])) result }
+    ensures { IsLeastNumber (IsMetIn hits.now (edge a b ∷ [])) result }
 {
-    let (low, high) = (lower_end(a, b), higher_end(a, b));
     let mut least = None;
-    for i in count_lower(points, spots, low)..spots.len() {
-        let spot = spots[i];
-        if !is_lower(place_of(spot), high) {
-            return least;
-        }
-        least = least_of(least, met(points, spot, a, b));
+    for hit in hits {
+        least = least_of(least, met(hit, a, b));
     }
     least
 }
 
 /// The least position of a point in an open side from `from` by the rest of the corners and on to
 /// `first`.
-fn least_way(
-    points: &[Point],
-    spots: &[Spot],
-    first: Point,
-    from: Point,
-    rest: &[Point],
-) -> Option<usize>
-    requires spots { AreSpots points.now spots.now }
-    requires on_grid { All IsOnGrid points.now }
+fn least_way(hits: &[Entry<usize>], first: Point, from: Point, rest: &[Point]) -> Option<usize>
+    requires hits { All IsPlaced hits.now }
     requires first_on { IsOnGrid first }
     requires from_on { IsOnGrid from }
     requires rest_on { All IsOnGrid rest.now }
-    ensures { IsLeastNumber (IsHungIn points.now (way_round first from rest.now)) result }
+    ensures { IsLeastNumber (IsMetIn hits.now (way_round first from rest.now)) result }
 {
     match rest {
-        [] => least_on(points, spots, from, first),
+        [] => least_on(hits, from, first),
         [to, after @ ..] => {
-            let here = least_on(points, spots, from, *to);
-            let ahead = least_way(points, spots, first, *to, after);
+            let here = least_on(hits, from, *to);
+            let ahead = least_way(hits, first, *to, after);
             least_of(here, ahead)
         }
     }
 }
 
 /// The least position of a point in an open side of the polygon of the corners.
-fn least_in(points: &[Point], spots: &[Spot], corners: &[Point]) -> Option<usize>
-    requires spots { AreSpots points.now spots.now }
-    requires on_grid { All IsOnGrid points.now }
+fn least_in(hits: &[Entry<usize>], corners: &[Point]) -> Option<usize>
+    requires hits { All IsPlaced hits.now }
     requires corners_on { All IsOnGrid corners.now }
-    ensures { IsLeastNumber (IsHungIn points.now (sides corners.now)) result }
+    ensures { IsLeastNumber (IsMetIn hits.now (sides corners.now)) result }
 {
     match corners {
         [] => None,
-        [first, rest @ ..] => least_way(points, spots, *first, *first, rest),
+        [first, rest @ ..] => least_way(hits, *first, *first, rest),
     }
+}
+
+/// The least position of a point of the tree in an open side of the polygon of the corners. Only points
+/// in a box that holds the corners are tried.
+fn least_at(
+    alloc: Global,
+    tree: &Tree<usize>,
+    corners: &[Point],
+) -> Result<Option<usize>, OutOfMemory>
+    requires placed { AllByRecursion IsPlaced tree.now.entries }
+    requires corners_on { All IsOnGrid corners.now }
+    ensures { IfOk result (IsLeastNumber (IsMetIn tree.now.entries (sides corners.now))) }
+{
+    let mut hits = Vec::new(alloc);
+    tree.push_hits(&box_of(corners), &mut hits)?;
+    Ok(least_in(&hits, corners))
 }
 
 /// The lesser of a pair and that of a point found at an element, each of which may be absent.
@@ -160,22 +109,27 @@ fn with_element(
     }
 }
 
-/// The least pair of positions of a point and of an element that has it in an open side.
-pub fn least_hanging(
+/// The least pair of positions of a point and of an element that has it in an open side. Points that
+/// are passed over aren't tried: they hang nowhere.
+fn least_hanging(
     alloc: Global,
     points: &[Point],
-    spots: &[Spot],
+    passed: &[bool],
     elements: &[MeshElement],
 ) -> Result<Option<(usize, usize)>, OutOfMemory>
-    requires spots { AreSpots points.now spots.now }
+    requires long { length passed.now ≡ length points.now }
+    requires passed { (i k : ℕ) → i < length points.now → slice_index_or passed.now i true ≡ true →
+        ¬ DoesHang points.now elements.now i k }
     requires on_grid { All IsOnGrid points.now }
     requires corners { All (λ e. All (IsListed (length points.now)) e.corners) elements.now }
     ensures { IfOk result (IsLeast (DoesHang points.now elements.now)) }
 {
+    let tree = tree_of(alloc, points, passed)?;
     let mut least = None;
     for (i, element) in elements.iter().enumerate() {
         let corners = polygon(alloc, points, element.corners.as_slice())?;
-        least = with_element(least, least_in(points, spots, &corners), i);
+        let found = least_at(alloc, &tree, &corners)?;
+        least = with_element(least, found, i);
     }
     Ok(least)
 }
@@ -184,10 +138,12 @@ pub fn least_hanging(
 pub fn hanging(
     alloc: Global,
     points: &[Point],
-    spots: &[Spot],
+    passed: &[bool],
     elements: &[MeshElement],
 ) -> Result<Option<(u64, u64)>, OutOfMemory>
-    requires spots { AreSpots points.now spots.now }
+    requires long { length passed.now ≡ length points.now }
+    requires passed { (i k : ℕ) → i < length points.now → slice_index_or passed.now i true ≡ true →
+        ¬ DoesHang points.now elements.now i k }
     requires on_grid { All IsOnGrid points.now }
     requires corners { All (λ e. All (IsListed (length points.now)) e.corners) elements.now }
     ensures found { IfOk result (λ found. IfSome found
@@ -195,7 +151,7 @@ pub fn hanging(
     ensures none { IfOk result (λ found. IfNone found
         ((i k : ℕ) → ¬ DoesHang points.now elements.now i k)) }
 {
-    match least_hanging(alloc, points, spots, elements)? {
+    match least_hanging(alloc, points, passed, elements)? {
         Some((i, k)) => Ok(Some((i as u64 + 1, k as u64 + 1))),
         None => Ok(None),
     }

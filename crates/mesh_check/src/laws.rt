@@ -18,7 +18,7 @@ ghost use Rattle.mesh_check.specs.Partition.{winds};
 ghost use Rattle.mesh_check.specs.declared.verdict.Verdict.{Verdict};
 ghost use Rattle.mesh_check.specs.declared.verdict.Verdict.TheVariants.{Whole};
 ghost use Rattle.mesh_check.specs.Whole.{IsWhole, DoesHang};
-ghost use Rattle.mesh_check.specs.Tight.{HasNoOtherFault, IsTight};
+ghost use Rattle.mesh_check.specs.Tight.{HasNoOtherFault, IsSpared, IsTight};
 ghost use Rattle.mesh_check.specs.Verdict.{IsVerdict};
 
 /// A mesh has one verdict for a geometry. So one that is whole has no fault's, and one with a fault's is
@@ -49,9 +49,12 @@ pub fn law_partition()
         ¬ Contains (sides (corners_of m.points (slice_index_or m.elements k e).corners)) side }
 {}
 
-/// Where a mesh has none of the other faults, each of its points is a corner of an element, and none is
-/// in an open edge row, no point hangs. So sides that are counted and agree spare the search.
+/// Where a mesh has none of the other faults and no point is in an open edge row, no corner of an
+/// element hangs; so none does where all points are corners. Sides that are counted and agree spare the
+/// search for corners.
 pub fn law_tight()
-    ensures { (g : PlanarMap) (m : Mesh) → IsGeometry g → NamesItsPoints m → HasNoOtherFault g m →
-        IsTight m → (i k : ℕ) → ¬ DoesHang m.points m.elements i k }
+    ensures spared { (g : PlanarMap) (m : Mesh) (i k : ℕ) → IsGeometry g → NamesItsPoints m →
+        HasNoOtherFault g m → IsSpared m i → ¬ DoesHang m.points m.elements i k }
+    ensures tight { (g : PlanarMap) (m : Mesh) → IsGeometry g → NamesItsPoints m →
+        HasNoOtherFault g m → IsTight m → (i k : ℕ) → ¬ DoesHang m.points m.elements i k }
 {}

@@ -1,130 +1,104 @@
--- What is left of refusals once the lines near an area were looked at again: a line whose box doesn't meet the widened area has a reach apart from the area.
-use Rattle.std.proofs.Common.{BTreeSet, ◌≡◌, ℕ, ◌+◌, ◌<◌, ◌≤◌, ◌⊎◌, inl, inr, Bool, true, false, ◌&&◌, ◌||◌, List, length, slice_index_or, refl, sym, ap, ◌∙◌, subst, arith, Option, None, Some, IfSome, ℤ, pos, ◌+ℤ◌, ◌-ℤ◌, ◌<ℤ◌, ◌≤ℤ◌}
-use lib.Signed.{le_z}
-use Rattle.std.specs.Option.{option_map_or}
-use Rattle.std.specs.List.{Contains}
-use Rattle.std.proofs.lemmas.Int.{ints}
+-- What is left of refusals once entries are forgotten, one after another: those that meet an area.
+use Rattle.std.proofs.Common.{◌≡◌, ◌≢◌, ℕ, ◌+◌, ◌<◌, ◌≤◌, ◌⊎◌, inl, inr, Bool, true, false, nat_eq, All, Contains, filter, take, List, [], ◌∷◌, ◌++◌, length, slice_index_or, set, refl, sym, ap, ◌∙◌, subst, arith}
+use Rattle.std.specs.List.{AllByRecursion}
+use Rattle.std.proofs.lemmas.List.{get_or-set_same, get_or-set_other, get_or_past, take_more, take_all}
+use Rattle.std.proofs.lemmas.List.Elements.{All-nil, All-more, All-weaker, All-contains, All-contains_itself, All-filter, All-from_recursion, filter_passes, recursion_from_All}
 use Rattle.grid_geom.specs.declared.Bounds.{Bounds}
-use Rattle.grid_geom.specs.declared.Point.{Point}
-use Rattle.size_field.specs.Size.{SizeField}
-use Rattle.state_law.specs.State.{State, point_at, pair_edge}
-use Rattle.front_chain.specs.Front.{FrontState, IsFrontState, state_of, line_at, does_meet, is_near}
-use Rattle.front_chain.proofs.NearLines.{place_of}
-use Rattle.rule_match.specs.declared.out_of_reach.Distance.{Distance}
-use Rattle.rule_match.specs.Near.{widening, IsFarLine, IsReachAtMost}
-use Rattle.rule_match.proofs.Gathered.{line_numbered}
-use Rattle.mesh_run.specs.Remembered.{AreAround, AreKept, AreLookedAt, AreReaching, IsAroundBy, IsLookedAt, IsWidenedBy}
-use Rattle.mesh_run.specs.Worklist.{AreTriedAgain, Lessened}
+use Rattle.digital_tree.specs.declared.Entry.{Entry}
+use Rattle.digital_tree.specs.Entries.{is_hit, AreDifferent}
+use Rattle.digital_tree.proofs.Lists.{all_first, all_second}
 use Rattle.mesh_run.specs.declared.refusals.Refusals.{Refusals}
-use Rattle.mesh_run.proofs.Tried.{as_it_is, tried_again}
+use Rattle.mesh_run.specs.declared.refusals.Region.{Region}
+use Rattle.mesh_run.specs.Remembered.{AreForgotten, IsForgotten}
+use Rattle.mesh_run.proofs.Regions.{one_entry, passed}
+use Rattle.mesh_run.proofs.StillNone.{contained}
 
--- ---- one line after another
--- of the lines' numbers those before place k were looked at
-pub record IsUnderWay (sizes : SizeField) (f : FrontState) (n : ℕ) (area : Bounds) (lines : List ℕ) (before now : Lessened) (k : ℕ) : Type 0 where
-  pub same : (other : ℕ) → 0 < slice_index_or now.least other 0 → slice_index_or now.least other 0 ≡ slice_index_or before.least other 0
-  pub far : (i : ℕ) → i < k → 0 < slice_index_or now.least (slice_index_or lines i 0) 0 → IsFarLine sizes (state_of f) n area.lo area.hi (slice_index_or lines i 0)
-  pub again : AreTriedAgain before now
+clash : false ≡ true → ⊥
+clash e = cc
 
-module _ (sizes : SizeField) (f : FrontState) (n : ℕ) (area : Bounds) (lines : List ℕ) (before : Lessened) where
-  pub begins : IsUnderWay sizes f n area lines before before 0
-  begins = record { same = λ other p. refl; far = λ i h. absurd (never i h); again = as_it_is before }
-    where
-      never : (i : ℕ) → i < 0 → ⊥
-      never i h = omega (arith, h)
+pub level : (n : ℕ) → n ≤ n
+level n = omega arith
 
-  pub goes_on : (now later : Lessened) (k : ℕ) → IsUnderWay sizes f n area lines before now k → IsLookedAt sizes f n area (slice_index_or lines k 0) now later → IsUnderWay sizes f n area lines before later (k + 1)
-  goes_on now later k u a = record {
-    same = λ other p. a.same other p ∙ u.same other (subst (λ (v : ℕ). 0 < v) (a.same other p) p);
-    far = λ i h. by i (compared i k h);
-    again = tried_again before now later u.again a.again;
+chained : (a b c : ℕ) → a ≤ b → b ≤ c → a ≤ c
+chained a b c h k = omega arith
+
+-- ---- a number in a table is lowered
+-- a number above another one is in the table
+within : (table : List ℕ) (place n : ℕ) → n < slice_index_or table place 0 → place < length table
+within table place n l = by (compared place (length table))
+  where
+    compared : (m n : ℕ) → (m < n) ⊎ (n ≤ m)
+    compared m n = grind arith
+
+    never : (m : ℕ) → n < m → m ≡ 0 → ⊥
+    never m l e = omega (arith, l, e)
+
+    by : (place < length table) ⊎ (length table ≤ place) → place < length table
+    by (inl m) = m
+    by (inr m) = absurd (never (slice_index_or table place 0) l (get_or_past table place 0 m))
+
+pub lowered_there : (table : List ℕ) (place n : ℕ) → n < slice_index_or table place 0 → slice_index_or (set table place n) place 0 ≤ n
+lowered_there table place n l = subst (λ (m : ℕ). m ≤ n) (sym (get_or-set_same table place n 0 (within table place n l))) (level n)
+
+pub lowered : (table : List ℕ) (place n : ℕ) → n < slice_index_or table place 0 → (other : ℕ) → slice_index_or (set table place n) other 0 ≤ slice_index_or table other 0
+lowered table place n l other = by (nat_eq other place) refl
+  where
+    same : (m n : ℕ) → nat_eq m n ≡ true → m ≡ n
+    same m n e = grind arith
+
+    differ : (m n : ℕ) → nat_eq m n ≡ false → m ≢ n
+    differ m n e f = let wrong : nat_eq m n ≡ true = grind arith in clash (sym e ∙ wrong)
+
+    less : (a b c : ℕ) → a ≤ b → b < c → a ≤ c
+    less a b c h k = omega arith
+
+    by : (b : Bool) → nat_eq other place ≡ b → slice_index_or (set table place n) other 0 ≤ slice_index_or table other 0
+    by true e =
+        subst (λ (m : ℕ). slice_index_or (set table place n) m 0 ≤ slice_index_or table m 0) (sym (same other place e)) (less (slice_index_or (set table place n) place 0) n (slice_index_or table place 0) (lowered_there table place n l) l)
+    by false e = subst (λ (m : ℕ). m ≤ slice_index_or table other 0) (sym (get_or-set_other table place other n 0 (differ other place e))) (level (slice_index_or table other 0))
+
+-- ---- one entry after another
+-- of the entry's line nothing is remembered from its class on
+abbrev IsGone : Refusals → Entry Region → Type 0
+IsGone m e = slice_index_or m.least.items e.value.line 0 ≤ e.value.class
+
+module _ (hits : List (Entry Region)) (before : Refusals) where
+  pub none_forgotten : AreForgotten [] before before
+  none_forgotten = record { reaches = refl; less = λ line. level (slice_index_or before.least.items line 0); forgotten = All-nil (IsGone before); others = λ other c d. c }
+
+  pub one_more_forgotten : (now later : Refusals) (k : ℕ) (d : Entry Region) → k < length hits → AreForgotten (take k hits) before now → IsForgotten (slice_index_or hits k d) now later → AreForgotten (take (k + 1) hits) before later
+  one_more_forgotten now later k d l h f = record {
+    reaches = f.reaches ∙ h.reaches;
+    less = λ line. chained (slice_index_or later.least.items line 0) (slice_index_or now.least.items line 0) (slice_index_or before.least.items line 0) (f.less line) (h.less line);
+    forgotten = All-more (IsGone later) hits k d l
+        (All-weaker (IsGone now) (IsGone later) (λ x gone. chained (slice_index_or later.least.items x.value.line 0) (slice_index_or now.least.items x.value.line 0) x.value.class (f.less x.value.line) gone) (take k hits) h.forgotten) f.forgotten;
+    others = λ other c differs. by other c (recursion_from_All (λ x. other.key ≢ x.key) (take k hits ++ slice_index_or hits k d ∷ []) (subst (All (λ x. other.key ≢ x.key)) (take_more hits k d l) differs));
   }
     where
-      compared : (i k : ℕ) → i < k + 1 → (i < k) ⊎ (i ≡ k)
-      compared i k h = grind arith
+      by : (other : Entry Region) → Contains before.regions.entries other → AllByRecursion (λ x. other.key ≢ x.key) (take k hits ++ slice_index_or hits k d ∷ []) → Contains later.regions.entries other
+      by other c differs =
+          f.others other
+          (h.others other c (All-from_recursion (λ x. other.key ≢ x.key) (take k hits) (all_first (λ x. other.key ≢ x.key) (take k hits) (slice_index_or hits k d ∷ []) differs)))
+          (all_second (λ x. other.key ≢ x.key) (take k hits) (slice_index_or hits k d ∷ []) differs).0
 
-      by : (i : ℕ) → (i < k) ⊎ (i ≡ k) → 0 < slice_index_or later.least (slice_index_or lines i 0) 0 → IsFarLine sizes (state_of f) n area.lo area.hi (slice_index_or lines i 0)
-      by i (inl h) = λ p. u.far i h (subst (λ (v : ℕ). 0 < v) (a.same (slice_index_or lines i 0) p) p)
-      by i (inr e) = subst (λ (m : ℕ). 0 < slice_index_or later.least (slice_index_or lines m 0) 0 → IsFarLine sizes (state_of f) n area.lo area.hi (slice_index_or lines m 0)) (sym e) a.far
+  pub all_forgotten : (after : Refusals) (k : ℕ) → length hits ≤ k → AreForgotten (take k hits) before after → AreForgotten hits before after
+  all_forgotten after k l h = subst (λ (es : List (Entry Region)). AreForgotten es before after) (take_all k hits l) h
 
-  pub all_looked_at : (after : Lessened) (k : ℕ) → length lines ≤ k → IsUnderWay sizes f n area lines before after k → AreLookedAt sizes f n area lines before after
-  all_looked_at after k l u = record { same = u.same; far = λ i h. u.far i (on i (length lines) k h l); again = u.again }
-    where
-      on : (i m k : ℕ) → i < m → m ≤ k → i < k
-      on i m k h l = omega arith
-
--- ---- lines that aren't near
--- the place is beyond one of the box's sides
-abbrev IsBeyond : Bounds → Point → Type 0
-IsBeyond b p = (b.hi.x <ℤ p.x) ⊎ ((p.x <ℤ b.lo.x) ⊎ ((b.hi.y <ℤ p.y) ⊎ (p.y <ℤ b.lo.y)))
-
--- where the box of a line doesn't meet a box, the line's start is beyond it
-start_beyond : (box : Bounds) (a b : Point) → does_meet box (record { a = a; b = b }) ≡ false → IsBeyond box a
-start_beyond box a b h =
-    by (le_z a.x box.hi.x) (le_z b.x box.hi.x) (le_z box.lo.x a.x) (le_z box.lo.x b.x) (le_z a.y box.hi.y) (le_z b.y box.hi.y) (le_z box.lo.y a.y) (le_z box.lo.y b.y) refl refl refl refl h
+-- ---- those that meet the area
+-- for each entry of before, of its line nothing is remembered from its class on, or it doesn't meet the area, and is still there
+pub hits_forgotten : (area : Bounds) (hits : List (Entry Region)) (before after : Refusals) → AreDifferent before.regions.entries → hits ≡ filter (is_hit area) before.regions.entries → AreForgotten hits before after
+    → (e : Entry Region) → Contains before.regions.entries e → (slice_index_or after.least.items e.value.line 0 ≤ e.value.class) ⊎ ((is_hit area e ≡ false) × Contains after.regions.entries e)
+hits_forgotten area hits before after different same f e c = by (is_hit area e) refl
   where
-    greater : (u w : ℤ) → le_z u w ≡ false → w <ℤ u
-    greater u w e = grind (arith, ints)
+    es : List (Entry Region)
+    es = before.regions.entries
 
-    clash : true ≡ false → ⊥
-    clash e = cc
+    -- no hit has the key of one that isn't
+    apart : is_hit area e ≡ false → All (λ x. e.key ≢ x.key) (filter (is_hit area) es)
+    apart missed = λ k d l key.
+        let x = slice_index_or (filter (is_hit area) es) k d in
+        clash (sym missed ∙ ap (is_hit area) (one_entry es different e x c (All-filter (is_hit area) (Contains es) es (All-contains_itself es) k d l) key) ∙ filter_passes (is_hit area) es k d l)
 
-    by : (p q r s t u v w : Bool) → le_z a.x box.hi.x ≡ p → le_z box.lo.x a.x ≡ r → le_z a.y box.hi.y ≡ t → le_z box.lo.y a.y ≡ v → (((p || q) && (r || s)) && ((t || u) && (v || w))) ≡ false → IsBeyond box a
-    by false q r s t u v w e f g i h = inl (greater a.x box.hi.x e)
-    by true q false s t u v w e f g i h = inr (inl (greater box.lo.x a.x f))
-    by true q true s false u v w e f g i h = inr (inr (inl (greater a.y box.hi.y g)))
-    by true q true s true u false w e f g i h = inr (inr (inr (greater box.lo.y a.y i)))
-    by true q true s true u true w e f g i h = absurd (clash h)
-
--- so its reach is apart from the area that was widened
-not_reached : (sizes : SizeField) (st : State) (n : ℕ) (area around : Bounds) (steps : ℤ) (line : ℕ × ℕ × ℕ) → Contains st.front line → IsReachAtMost sizes st.points n steps line.1 line.2 → IsWidenedBy area steps around
-    → IsBeyond around (point_at st.points line.1) → IsFarLine sizes st n area.lo area.hi line.0
-not_reached sizes st n area around steps line c reach wide beyond = record {
-  line = line;
-  on_front = c;
-  numbered = refl;
-  frame = reach.frame;
-  is_frame = reach.is_frame;
-  framed = reach.framed;
-  box = record { columns = level reach.frame.p1.x (widening n reach.frame) reach.positive; rows = level reach.frame.p1.y (widening n reach.frame) reach.positive };
-  apart = elim (subst (IsBeyond around) (sym reach.framed.start) beyond) [
-    | inl k ↦ inl (under reach.frame.p1.x (widening n reach.frame) steps area.hi.x around.hi.x wide.right reach.within k)
-    | inr more ↦ elim more [
-      | inl k ↦ inr (inl (over reach.frame.p1.x (widening n reach.frame) steps area.lo.x around.lo.x wide.left reach.within k))
-      | inr rows ↦ elim rows [
-        | inl k ↦ inr (inr (inl (under reach.frame.p1.y (widening n reach.frame) steps area.hi.y around.hi.y wide.above reach.within k)))
-        | inr k ↦ inr (inr (inr (over reach.frame.p1.y (widening n reach.frame) steps area.lo.y around.lo.y wide.below reach.within k)))
-      ]
-    ]
-  ];
-}
-  where
-    level : (x w : ℤ) → pos 0 ≤ℤ w → (x -ℤ w) ≤ℤ (x +ℤ w)
-    level x w l = omega (arith, ints)
-
-    under : (x w steps hi wide : ℤ) → wide ≡ hi +ℤ steps → w ≤ℤ steps → wide <ℤ x → hi <ℤ (x -ℤ w)
-    under x w steps hi wide e l k = omega (arith, ints)
-
-    over : (x w steps lo wide : ℤ) → wide ≡ lo -ℤ steps → w ≤ℤ steps → x <ℤ wide → (x +ℤ w) <ℤ lo
-    over x w steps lo wide e l k = omega (arith, ints)
-
--- so what is left is as it must be
-pub all_kept : (sizes : SizeField) (f : FrontState) (m : Refusals) (area : Bounds) (lines : List ℕ) (work : Option (BTreeSet (ℕ × ℕ))) (after : Lessened) → IsFrontState f → AreReaching m sizes (state_of f)
-    → AreAround f area m.widest lines → AreLookedAt sizes f m.reach area lines (record { least = m.least.items; work = work }) after → AreKept sizes (state_of f) m.reach area m.least.items after.least
-all_kept sizes f m area lines work after s reaching near looked = record { same = looked.same; far = λ line c p. by line c p (is_near f around line.0) refl }
-  where
-    around : Bounds
-    around = near.around
-
-    known : (o : Option Distance) → IfSome o (λ far. (line : ℕ × ℕ × ℕ) → Contains f.lines line → 0 < slice_index_or m.least.items line.0 0 → IsReachAtMost sizes f.points m.reach far.steps line.1 line.2) → IsAroundBy area o around
-        → (line : ℕ × ℕ × ℕ) → Contains f.lines line → 0 < slice_index_or m.least.items line.0 0 → IsBeyond around (point_at f.points line.1) → IsFarLine sizes (state_of f) m.reach area.lo area.hi line.0
-    known None h w = absurd w
-    known (Some far) h w = λ line c p beyond. not_reached sizes (state_of f) m.reach area around far.steps line c (h line c p) w beyond
-
-    by : (line : ℕ × ℕ × ℕ) → Contains f.lines line → 0 < slice_index_or after.least line.0 0 → (b : Bool) → is_near f around line.0 ≡ b → IsFarLine sizes (state_of f) m.reach area.lo area.hi line.0
-    by line c p true e =
-        let here = place_of near.near line.0 e in
-        subst (λ (k : ℕ). 0 < slice_index_or after.least k 0 → IsFarLine sizes (state_of f) m.reach area.lo area.hi k) here.2 (looked.far here.0 here.1) p
-    by line c p false e =
-        let at : line_at f.lines line.0 ≡ Some (line.1, line.2) = line_numbered f.lines f.next c.0 line line s.rising c.1 c.2 in
-        let apart : does_meet around (pair_edge f.points (line.1, line.2)) ≡ false = sym (ap (λ (o : Option (ℕ × ℕ)). option_map_or (λ ends. does_meet around (pair_edge f.points ends)) o false) at) ∙ e in
-        known m.widest reaching.within near.wide line c (subst (λ (v : ℕ). 0 < v) (looked.same line.0 p) p) (start_beyond around (point_at f.points line.1) (point_at f.points line.2) apart)
+    by : (b : Bool) → is_hit area e ≡ b → (slice_index_or after.least.items e.value.line 0 ≤ e.value.class) ⊎ ((is_hit area e ≡ false) × Contains after.regions.entries e)
+    by true i = inl (All-contains (IsGone after) hits e f.forgotten (subst (λ (xs : List (Entry Region)). Contains xs e) (sym same) (contained (λ x. is_hit area x ≡ true → Contains (filter (is_hit area) es) x) es e (passed (is_hit area) es) c i)))
+    by false i = inr (i, f.others e c (subst (All (λ x. e.key ≢ x.key)) (sym same) (apart i)))

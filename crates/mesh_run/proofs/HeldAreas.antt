@@ -1,10 +1,11 @@
--- Boxes that hold the corners of elements, and what is forgotten of lines near them.
+-- Boxes that hold the corners of elements.
 use Rattle.std.proofs.Common.{ℕ, ◌+◌, ◌<◌, ◌≤◌, All, List, length, take, slice_index_or, subst, arith, ℤ, ◌≤ℤ◌}
 use Rattle.std.proofs.lemmas.Int.{ints}
 use Rattle.std.proofs.lemmas.List.{get_or-take, length-take-le}
 use Rattle.std.proofs.lemmas.List.Elements.{All-more, All-weaker}
 use Rattle.grid_geom.specs.declared.Bounds.{Bounds}
 use Rattle.grid_geom.specs.declared.Point.{Point}
+use Rattle.grid_geom.specs.Boxes.{DoBoundsMeet}
 use Rattle.state_law.specs.State.{point_at}
 use Rattle.mesh_run.specs.Remembered.{IsInArea, IsWider}
 
@@ -25,6 +26,15 @@ wider_on a b c v w = record {
   right = chained a.hi.x b.hi.x c.hi.x v.right w.right;
   below = chained c.lo.y b.lo.y a.lo.y w.below v.below;
   above = chained a.hi.y b.hi.y c.hi.y v.above w.above;
+}
+
+-- so what meets a box meets one that holds it
+pub wider_meets : (a b c : Bounds) → IsWider a b → DoBoundsMeet a c → DoBoundsMeet b c
+wider_meets a b c w h = record {
+  first_column = chained b.lo.x a.lo.x c.hi.x w.left h.first_column;
+  second_column = chained c.lo.x a.hi.x b.hi.x h.second_column w.right;
+  first_row = chained b.lo.y a.lo.y c.hi.y w.below h.first_row;
+  second_row = chained c.lo.y a.hi.y b.hi.y h.second_row w.above;
 }
 
 -- the box holds the places of the numbers

@@ -57,8 +57,11 @@ pub mod DoneWhole
 pub mod WholeRows
 -- Touched: boxes of elements.
 pub mod HeldAreas
--- Tried: lines put on the worklist. What is left of refusals.
+-- Tried: lines put on the worklist. Regions: entries put in and taken out. What is left of refusals.
 pub mod Tried
+pub mod Regions
 pub mod Forgotten
 pub mod Noted
+-- Reaches: reaches by class.
+pub mod Reaches
 pub mod StillRemembered

@@ -1,73 +1,141 @@
--- One more refusal is remembered: the line is on the front, and the widest distance covers its reach too.
-use Rattle.std.proofs.Common.{◌≡◌, ℕ, ◌+◌, ◌<◌, ◌≤◌, ◌⊎◌, inl, inr, List, slice_index_or, sym, ap, subst, arith, refl, true, Option, None, Some, IfSome, ℤ, ◌≤ℤ◌, is_some}
-use Rattle.std.specs.List.{AllByRecursion, Contains}
-use Rattle.std.proofs.lemmas.Int.{ints}
+-- One more refusal is remembered: the line is on the front, and has a region at the class.
+use Rattle.std.proofs.Common.{◌≡◌, ℕ, ◌+◌, ◌-◌, ◌<◌, ◌≤◌, ◌⊎◌, inl, inr, max, List, slice_index_or, length, sym, ap, ◌∙◌, subst, arith, refl, true, Option, None, Some, is_some, Contains}
+use Rattle.grid_geom.specs.declared.Bounds.{Bounds}
+use Rattle.grid_geom.specs.declared.Point.{Point}
+use Rattle.digital_tree.specs.declared.Key.{Key}
+use Rattle.digital_tree.specs.Entries.{IsInserted}
 use Rattle.state_law.specs.State.{State}
 use Rattle.size_field.specs.Size.{SizeField}
 use Rattle.front_chain.specs.Front.{FrontState, IsFrontState, state_of, line_at}
-use Rattle.rule_match.specs.declared.out_of_reach.Distance.{Distance}
-use Rattle.rule_match.specs.Near.{IsCoveredBy, IsReachAtMost}
 use Rattle.rule_match.specs.Least.{HasNone}
+use Rattle.rule_match.specs.Near.{IsReachBox}
 use Rattle.rule_match.proofs.BaseLines.{line_there}
 use Rattle.rule_match.proofs.Gathered.{line_numbered}
 use Rattle.mesh_run.specs.declared.refusals.Refusals.{Refusals}
-use Rattle.mesh_run.specs.Remembered.{AreTrue, IsNoted, IsNoFarther}
+use Rattle.mesh_run.specs.Remembered.{AreCovering, AreStill, AreTrue, HasRegion, IsNoted, IsRegion}
 use Rattle.mesh_run.specs.Steps.{RunSetting}
+use Rattle.mesh_run.specs.Worklist.{least_open}
 use Rattle.mesh_run.proofs.Searched.{noted_remembered}
+use Rattle.mesh_run.proofs.Regions.{put_in}
 use Rattle.mesh_run.proofs.StillNone.{below_next}
 
--- what goes at most so far goes at most farther
-wider_reach : (sizes : SizeField) (st : State) (n from to : ℕ) (steps more : ℤ) → steps ≤ℤ more → IsReachAtMost sizes st.points n steps from to → IsReachAtMost sizes st.points n more from to
-wider_reach sizes st n from to steps more l h = record { frame = h.frame; is_frame = h.is_frame; framed = h.framed; positive = h.positive; within = further _ steps more h.within l }
+-- ---- regions
+-- a region that a line has stays where each entry does
+still_has : (m after : Refusals) (sizes : SizeField) (points : List Point) (line : ℕ × ℕ × ℕ) (class : ℕ) → after.reaches.items ≡ m.reaches.items → AreStill m.regions.entries after.regions.entries → HasRegion m sizes points line class → HasRegion after sizes points line class
+still_has m after sizes points line class reaches stay h = record {
+  entry = h.entry;
+  there = stay.each h.entry h.there;
+  region = subst (λ (ns : List ℕ). IsRegion ns sizes points line class h.entry) (sym reaches) h.region;
+}
+
+-- so what is remembered stays true
+pub still_kept : (s : RunSetting) (st : State) (m after : Refusals) → after.least.items ≡ m.least.items → after.reaches.items ≡ m.reaches.items → AreStill m.regions.entries after.regions.entries → AreTrue m s st → AreTrue after s st
+still_kept s st m after least reaches stay h = record {
+  remembered = record { none = λ line class first l. h.remembered.none line class first (subst (λ (table : List ℕ). class < slice_index_or table line 0) least l) };
+  covers = subst (λ (ns : List ℕ). AreCovering s.rules ns) (sym reaches) h.covers;
+  reaching = record {
+    given = λ line p. h.reaching.given line (subst (λ (table : List ℕ). 0 < slice_index_or table line 0) least p);
+    regions = λ line class c first l.
+        still_has m after s.sizes st.points line class reaches stay (h.reaching.regions line class c first (subst (λ (table : List ℕ). class < slice_index_or table line.0 0) least l));
+  };
+}
+
+-- where rules reach as far up to the class as up to the class before, a region at that class is one at the class
+pub region_on : (m : Refusals) (sizes : SizeField) (points : List Point) (line : ℕ × ℕ × ℕ) (class : ℕ) → class < length m.reaches.items → slice_index_or m.reaches.items (class - 1) 0 ≡ slice_index_or m.reaches.items class 0
+    → HasRegion m sizes points line (class - 1) → HasRegion m sizes points line class
+region_on m sizes points line class tried same h = by (compared h.region.last class h.region.no_less)
   where
-    further : (w steps more : ℤ) → w ≤ℤ steps → steps ≤ℤ more → w ≤ℤ more
-    further w steps more a b = omega (arith, ints)
+    compared : (last class : ℕ) → class - 1 ≤ last → (class ≤ last) ⊎ (last ≡ class - 1)
+    compared last class l = grind arith
 
--- what the reach of the line is known to be
-abbrev pub IsReachOfLine : SizeField → FrontState → ℕ → ℕ → Distance → Type 0
-IsReachOfLine sizes f n line far = (ends : ℕ × ℕ) → line_at f.lines line ≡ Some ends → IsReachAtMost sizes f.points n far.steps ends.0 ends.1
+    level : (n : ℕ) → n ≤ n
+    level n = omega arith
 
-abbrev WithinAll : SizeField → FrontState → ℕ → List ℕ → Distance → Type 0
-WithinAll sizes f n least far = (line : ℕ × ℕ × ℕ) → Contains f.lines line → 0 < slice_index_or least line.0 0 → IsReachAtMost sizes f.points n far.steps line.1 line.2
+    from : (first class : ℕ) → first ≤ class - 1 → first ≤ class
+    from first class l = omega arith
 
--- the widest distance covers what was remembered and the line
-module _ (sizes : SizeField) (f : FrontState) (n : ℕ) (before after : List ℕ) (line least : ℕ) (front : IsFrontState f) (noted : IsNoted before after line least) where
-  within_both : (d e far : Distance) → d.steps ≤ℤ far.steps → e.steps ≤ℤ far.steps → WithinAll sizes f n before d → IsReachOfLine sizes f n line e → WithinAll sizes f n after far
-  within_both d e far l k h r = λ other c p. by other c p (noted.each other.0)
-    where
-      by : (other : ℕ × ℕ × ℕ) → Contains f.lines other → 0 < slice_index_or after other.0 0 → (slice_index_or after other.0 0 ≡ slice_index_or before other.0 0) ⊎ ((other.0 ≡ line) × (slice_index_or after other.0 0 ≡ least)) → IsReachAtMost sizes f.points n far.steps other.1 other.2
-      by other c p (inl same) = wider_reach sizes (state_of f) n other.1 other.2 d.steps far.steps l (h other c (subst (λ (v : ℕ). 0 < v) same p))
-      by other c p (inr here) =
-          let at : line_at f.lines other.0 ≡ Some (other.1, other.2) = line_numbered f.lines f.next c.0 other other front.rising c.1 c.2 in
-          wider_reach sizes (state_of f) n other.1 other.2 e.steps far.steps k (r (other.1, other.2) (subst (λ (m : ℕ). line_at f.lines m ≡ Some (other.1, other.2)) here.0 at))
+    by : (class ≤ h.region.last) ⊎ (h.region.last ≡ class - 1) → HasRegion m sizes points line class
+    by (inl l) = record {
+      entry = h.entry;
+      there = h.there;
+      region = record { of_line = h.region.of_line; from = from h.entry.value.class class h.region.from; last = h.region.last; no_less = l; tried = h.region.tried; holds = h.region.holds };
+    }
+    by (inr e) = record {
+      entry = h.entry;
+      there = h.there;
+      region = record {
+        of_line = h.region.of_line;
+        from = from h.entry.value.class class h.region.from;
+        last = class;
+        no_less = level class;
+        tried = tried;
+        holds = subst (λ (n : ℕ). IsReachBox sizes points n line.1 line.2 h.entry.bounds) (ap (λ (k : ℕ). slice_index_or m.reaches.items k 0) e ∙ same) h.region.holds;
+      };
+    }
 
-  still_within : (a b w : Option Distance) → IfSome w (IsNoFarther a) → IfSome w (IsNoFarther b) → IfSome a (WithinAll sizes f n before) → IfSome b (IsReachOfLine sizes f n line) → IfSome w (WithinAll sizes f n after)
-  still_within a b None x y h r = tt
-  still_within None b (Some far) x y h r = absurd x
-  still_within (Some d) None (Some far) x y h r = absurd y
-  still_within (Some d) (Some e) (Some far) x y h r = within_both d e far x y h r
+-- and an entry that is put in is one
+pub new_region : (m after : Refusals) (sizes : SizeField) (points : List Point) (line : ℕ × ℕ × ℕ) (class : ℕ) (box : Bounds) (k : Key) → after.reaches.items ≡ m.reaches.items → class < length m.reaches.items
+    → IsInserted (record { key = k; bounds = box; value = record { line = line.0; class = class } }) m.regions.entries after.regions.entries → IsReachBox sizes points (slice_index_or m.reaches.items class 0) line.1 line.2 box → HasRegion after sizes points line class
+new_region m after sizes points line class box k reaches tried i holds = record {
+  entry = record { key = k; bounds = box; value = record { line = line.0; class = class } };
+  there = put_in i;
+  region = subst (λ (ns : List ℕ). IsRegion ns sizes points line class (record { key = k; bounds = box; value = record { line = line.0; class = class } })) (sym reaches)
+      (record { of_line = refl; from = level class; last = class; no_less = level class; tried = tried; holds = holds });
+}
+  where
+    level : (n : ℕ) → n ≤ n
+    level n = omega arith
 
-  still_given : is_some (line_at f.lines line) ≡ true → ((other : ℕ) → 0 < slice_index_or before other 0 → other < f.next) → (other : ℕ) → 0 < slice_index_or after other 0 → other < f.next
-  still_given there h other p = by (noted.each other)
+-- a class before the first that isn't remembered is remembered
+pub class_before : (refused : List ℕ) (line class : ℕ) → 2 ≤ class → class ≤ least_open refused line → (1 ≤ class - 1) × (class - 1 < slice_index_or refused line 0)
+class_before refused line class two first = (omega arith, below (slice_index_or refused line 0) first)
+  where
+    below : (n : ℕ) → class ≤ max 1 n → class - 1 < n
+    below n h = omega (arith, two)
+
+-- ---- one more refusal
+module _ (s : RunSetting) (f : FrontState) (m after : Refusals) (line class : ℕ) (front : IsFrontState f) (h : AreTrue m s (state_of f)) (noted : IsNoted m.least.items after.least.items line (class + 1)) where
+  still_given : is_some (line_at f.lines line) ≡ true → (other : ℕ) → 0 < slice_index_or after.least.items other 0 → other < f.next
+  still_given there other p = by (noted.each other)
     where
       here : (o : Option (ℕ × ℕ)) → line_at f.lines line ≡ o → is_some o ≡ true → line < f.next
       here None e t = absurd (cc)
       here (Some ends) e t = below_next f.lines f.next (line, ends.0, ends.1) front.rising (line_there f.lines line ends e)
 
-      by : (slice_index_or after other 0 ≡ slice_index_or before other 0) ⊎ ((other ≡ line) × (slice_index_or after other 0 ≡ least)) → other < f.next
-      by (inl same) = h other (subst (λ (v : ℕ). 0 < v) same p)
-      by (inr e) = subst (λ (m : ℕ). m < f.next) (sym e.0) (here (line_at f.lines line) refl there)
+      by : (slice_index_or after.least.items other 0 ≡ slice_index_or m.least.items other 0) ⊎ ((other ≡ line) × (slice_index_or after.least.items other 0 ≡ class + 1)) → other < f.next
+      by (inl same) = h.reaching.given other (subst (λ (v : ℕ). 0 < v) same p)
+      by (inr e) = subst (λ (n : ℕ). n < f.next) (sym e.0) (here (line_at f.lines line) refl there)
 
--- what is remembered with one more refusal is true
-pub noted_true : (s : RunSetting) (f : FrontState) (m after : Refusals) (far : Option Distance) (line class : ℕ) → IsFrontState f → AreTrue m s (state_of f) → IsNoted m.least.items after.least.items line (class + 1)
-    → after.reach ≡ m.reach → IfSome after.widest (IsNoFarther m.widest) → IfSome after.widest (IsNoFarther far) → is_some (line_at f.lines line) ≡ true → IfSome far (IsReachOfLine s.sizes f m.reach line)
-    → ((n : ℕ) → 1 ≤ n → n ≤ class → HasNone s.sizes (state_of f) s.rules line n) → AreTrue after s (state_of f)
-noted_true s f m after far line class front true_before noted reach first second there reaches none = record {
-  remembered = noted_remembered s (state_of f) m.least.items after.least.items line class true_before.remembered noted none;
-  covers = subst (λ (n : ℕ). AllByRecursion (IsCoveredBy n) s.rules) (sym reach) true_before.covers;
-  reaching = record {
-    given = still_given s.sizes f m.reach m.least.items after.least.items line (class + 1) front noted there true_before.reaching.given;
-    within = subst (λ (n : ℕ). IfSome after.widest (WithinAll s.sizes f n after.least.items)) (sym reach)
-        (still_within s.sizes f m.reach m.least.items after.least.items line (class + 1) front noted m.widest far after.widest first second true_before.reaching.within reaches);
-  };
-}
+  -- a class of the line is the new one, or one that was remembered
+  all_have : class ≤ least_open m.least.items line → ((ends : ℕ × ℕ) → line_at f.lines line ≡ Some ends → HasRegion m s.sizes f.points (line, ends.0, ends.1) class)
+      → (other : ℕ × ℕ × ℕ) (k : ℕ) → Contains f.lines other → 1 ≤ k → k < slice_index_or after.least.items other.0 0 → HasRegion m s.sizes f.points other k
+  all_have first held other k c positive l = by (noted.each other.0)
+    where
+      split : (n : ℕ) → n ≡ class + 1 → k < n → (k ≡ class) ⊎ (k < class)
+      split n e b = grind arith
+
+      below : (n : ℕ) → class ≤ max 1 n → k < class → k < n
+      below n b d = omega (arith, positive)
+
+      here : other.0 ≡ line → (k ≡ class) ⊎ (k < class) → HasRegion m s.sizes f.points other k
+      here e (inl same) =
+          let at : line_at f.lines other.0 ≡ Some (other.1, other.2) = line_numbered f.lines f.next c.0 other other front.rising c.1 c.2 in
+          subst (HasRegion m s.sizes f.points other) (sym same)
+          (subst (λ (n : ℕ). HasRegion m s.sizes f.points (n, other.1, other.2) class) (sym e) (held (other.1, other.2) (subst (λ (n : ℕ). line_at f.lines n ≡ Some (other.1, other.2)) e at)))
+      here e (inr less) = h.reaching.regions other k c positive (subst (λ (n : ℕ). k < slice_index_or m.least.items n 0) (sym e) (below (slice_index_or m.least.items line 0) first less))
+
+      by : (slice_index_or after.least.items other.0 0 ≡ slice_index_or m.least.items other.0 0) ⊎ ((other.0 ≡ line) × (slice_index_or after.least.items other.0 0 ≡ class + 1)) → HasRegion m s.sizes f.points other k
+      by (inl same) = h.reaching.regions other k c positive (subst (λ (n : ℕ). k < n) same l)
+      by (inr e) = here e.0 (split (slice_index_or after.least.items other.0 0) e.1 l)
+
+  -- what is remembered with one more refusal is true
+  pub noted_true : after.reaches.items ≡ m.reaches.items → AreStill m.regions.entries after.regions.entries → is_some (line_at f.lines line) ≡ true → class ≤ least_open m.least.items line
+      → ((ends : ℕ × ℕ) → line_at f.lines line ≡ Some ends → HasRegion m s.sizes f.points (line, ends.0, ends.1) class) → ((n : ℕ) → 1 ≤ n → n ≤ class → HasNone s.sizes (state_of f) s.rules line n) → AreTrue after s (state_of f)
+  noted_true reaches stay there first held none = record {
+    remembered = noted_remembered s (state_of f) m.least.items after.least.items line class h.remembered noted none;
+    covers = subst (λ (ns : List ℕ). AreCovering s.rules ns) (sym reaches) h.covers;
+    reaching = record {
+      given = still_given there;
+      regions = λ other k c positive l. still_has m after s.sizes f.points other k reaches stay (all_have first held other k c positive l);
+    };
+  }

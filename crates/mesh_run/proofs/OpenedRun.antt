@@ -1,5 +1,5 @@
 -- The run of a domain before its first application.
-use Rattle.std.proofs.Common.{◌≡◌, ℕ, ◌+◌, ◌<◌, ◌≤◌, List, [], length, take, slice_index_or, refl, sym, ap, ◌∙◌, subst, arith, Option, None, Some, IfSome}
+use Rattle.std.proofs.Common.{◌≡◌, ℕ, ◌+◌, ◌<◌, ◌≤◌, List, [], length, take, slice_index_or, refl, sym, ap, ◌∙◌, subst, arith, None}
 use Rattle.std.specs.List.{All, Contains}
 use Rattle.std.proofs.lemmas.List.Elements.{All-nil, All-contains}
 use Rattle.std.proofs.Math.Seq.{take-length}
@@ -17,10 +17,8 @@ use Rattle.mesh_run.specs.Boundary.{IsNumberTo}
 use Rattle.mesh_run.specs.Opening.{domain_points, opening_lines, front_from}
 use Rattle.mesh_run.specs.Runs.{pieces_by, opening_of, setting_of}
 use Rattle.mesh_run.specs.RunState.{RunParts, IsRunState, AreOptions, elements_made, run_of, opened_run}
-use Rattle.mesh_run.specs.Remembered.{DoesRemember, IsEmpty}
+use Rattle.mesh_run.specs.Remembered.{AreCovering, DoesRemember, IsEmpty}
 use Rattle.mesh_run.specs.declared.refusals.Refusals.{Refusals}
-use Rattle.rule_match.specs.declared.out_of_reach.Distance.{Distance}
-use Rattle.rule_match.specs.Near.{IsReachAtMost}
 use Rattle.std.proofs.lemmas.List.{get_or_past}
 use Rattle.mesh_run.proofs.Begun.{begun, same_front}
 
@@ -75,13 +73,13 @@ opened_holds g p h options = subst IsRunState (sym (opened_is g p h)) (record {
     level n = omega arith
 
 -- nothing is remembered at the opening
-pub opened_remembers : (g : PlanarMap) (p : RunParts) (m : Refusals) → AreOpened g p → AreOptions p.options → IsEmpty p.rules m → DoesRemember (run_of p) m None
-opened_remembers g p m h options e = record {
+pub opened_remembers : (g : PlanarMap) (p : RunParts) (reaches : List ℕ) (m : Refusals) → AreOpened g p → AreOptions p.options → AreCovering p.rules reaches → IsEmpty reaches m → DoesRemember (run_of p) m None
+opened_remembers g p reaches m h options covers e = record {
   is_run = opened_holds g p h options;
   remembered = record {
     remembered = record { none = λ line class f l. absurd (nothing line class l) };
-    covers = e.covers;
-    reaching = record { given = λ line l. absurd (nothing line 0 l); within = by m.widest };
+    covers = subst (AreCovering p.rules) (sym e.reaches_are) covers;
+    reaching = record { given = λ line l. absurd (nothing line 0 l); regions = λ line class c f l. absurd (nothing line.0 class l) };
   };
   to_try = tt;
 }
@@ -91,10 +89,6 @@ opened_remembers g p m h options e = record {
 
     nothing : (line class : ℕ) → class < slice_index_or m.least.items line 0 → ⊥
     nothing line class l = empty line class (subst (λ (table : List ℕ). class < slice_index_or table line 0) e.nothing l)
-
-    by : (o : Option Distance) → IfSome o (λ far. (line : ℕ × ℕ × ℕ) → Contains (run_of p).state.front line → 0 < slice_index_or m.least.items line.0 0 → IsReachAtMost p.sizes (run_of p).state.points m.reach far.steps line.1 line.2)
-    by None = tt
-    by (Some far) = λ line c l. absurd (nothing line.0 0 l)
 
 -- the parts as they are made: of segments and pieces, and of the points and lines of the opening
 pub record AreSetUp (g : PlanarMap) (p : RunParts) (segments : List Segment) (pieces : List Piece) (points : List Point) : Type 0 where

@@ -1,15 +1,14 @@
 -- What is remembered, and what comes next, depend on the points and the front alone.
-use Rattle.std.proofs.Common.{◌≡◌, ℕ, ◌+◌, ◌<◌, ◌≤◌, ◌⊎◌, inl, inr, slice_index_or, List, sym, ap, subst, ◌∙◌, arith, IfSome}
+use Rattle.std.proofs.Common.{◌≡◌, ℕ, ◌+◌, ◌<◌, ◌≤◌, ◌⊎◌, inl, inr, slice_index_or, List, sym, subst, arith}
 use Rattle.std.specs.List.{Contains}
 use Rattle.grid_geom.specs.declared.Point.{Point}
 use Rattle.size_field.specs.Size.{SizeField}
-use Rattle.rule_match.specs.Near.{IsReachAtMost}
 use Rattle.mesh_run.specs.declared.refusals.Refusals.{Refusals}
 use Rattle.state_law.specs.State.{State}
 use Rattle.rule_match.specs.declared.application.Application.{Application}
 use Rattle.rule_match.specs.Least.{HasNone}
 use Rattle.mesh_run.specs.Steps.{RunSetting, IsNext, NothingApplies}
-use Rattle.mesh_run.specs.Remembered.{AreReaching, AreRemembered, AreTrue, IsNoted}
+use Rattle.mesh_run.specs.Remembered.{AreReaching, AreRemembered, AreTrue, HasRegion, IsNoted}
 use Rattle.mesh_run.proofs.SameState.{AreSame, same_best, same_none}
 
 -- what is remembered of a line that has no candidate up to a class is true
@@ -41,13 +40,12 @@ same_nothing s st other same n = record { none = λ class line first l. same_non
 same_remembered : (s : RunSetting) (refused : List ℕ) (st other : State) → AreSame st other → AreRemembered refused s st → AreRemembered refused s other
 same_remembered s refused st other same h = record { none = λ line class first l. same_none s.sizes s.rules line class st other same (h.none line class first l) }
 
--- so it is with how far the lines reach, and with all that is remembered
+-- so it is with the regions, and with all that is remembered
 pub same_reaching : (m : Refusals) (sizes : SizeField) (st other : State) → AreSame st other → other.next ≡ st.next → AreReaching m sizes st → AreReaching m sizes other
 same_reaching m sizes st other same next h = record {
   given = λ line p. subst (λ (n : ℕ). line < n) (sym next) (h.given line p);
-  within =
-      subst (λ (ps : List Point). IfSome m.widest (λ far. (line : ℕ × ℕ × ℕ) → Contains other.front line → 0 < slice_index_or m.least.items line.0 0 → IsReachAtMost sizes ps m.reach far.steps line.1 line.2)) same.points
-      (subst (λ (front : List (ℕ × ℕ × ℕ)). IfSome m.widest (λ far. (line : ℕ × ℕ × ℕ) → Contains front line → 0 < slice_index_or m.least.items line.0 0 → IsReachAtMost sizes st.points m.reach far.steps line.1 line.2)) same.front h.within);
+  regions = λ line class c first l.
+      subst (λ (ps : List Point). HasRegion m sizes ps line class) same.points (h.regions line class (subst (λ (front : List (ℕ × ℕ × ℕ)). Contains front line) (sym same.front) c) first l);
 }
 
 pub same_true : (s : RunSetting) (m : Refusals) (st other : State) → AreSame st other → other.next ≡ st.next → AreTrue m s st → AreTrue m s other

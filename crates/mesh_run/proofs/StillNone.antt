@@ -18,9 +18,9 @@ use Rattle.admission.specs.Admission.{glued_on, MayFollow}
 use Rattle.admission.proofs.Order.{same_points}
 use Rattle.rule_match.specs.declared.application.Application.{Application}
 use Rattle.rule_match.specs.Least.{HasNone}
-use Rattle.rule_match.specs.Near.{IsAlikeNear, IsCoveredBy, IsStayingLine, reach_lo, reach_hi}
+use Rattle.rule_match.specs.Near.{IsAlikeNear, IsCoveredAt, IsStayingLine, reach_lo, reach_hi}
 use Rattle.rule_match.proofs.FarAway.{alike_after}
-use Rattle.rule_match.proofs.NearBack.{none_later}
+use Rattle.rule_match.proofs.NearBack.{none_later_at}
 use Rattle.mesh_run.specs.Reached.{IsReached, MayBeApplied, front_at}
 use Rattle.mesh_run.specs.Remembered.{IsApartFrom}
 use Rattle.mesh_run.specs.Steps.{applied, with_points}
@@ -62,10 +62,11 @@ alike_on lo hi b st a r m h =
           (subst (MayAllBeGlued (map (corners_of w.points) a.elements)) kept (may_on w a.elements n m.listed m.may)));
     }
 
--- so a line whose reach is apart from the elements, and which stays, has none where it had none
-pub still_none : (sizes : SizeField) (rules : List Rule) (n class : ℕ) (b : List Edge) (st : State) (a : Application) (line : ℕ × ℕ × ℕ) (f : LocalFrame) → 1 ≤ class → AllByRecursion (IsCoveredBy n) rules
+-- so a line whose reach up to a class is apart from the elements, and which stays, has none where it had none
+pub still_none : (sizes : SizeField) (rules : List Rule) (n last class : ℕ) (b : List Edge) (st : State) (a : Application) (line : ℕ × ℕ × ℕ) (f : LocalFrame) → 1 ≤ class → class ≤ last → AllByRecursion (IsCoveredAt last n) rules
     → IsReached b st → MayBeApplied st a → IsStayingLine sizes st (applied st a) line f → IsApartFrom (reach_lo n f) (reach_hi n f) st a → HasNone sizes st rules line.0 class → HasNone sizes (applied st a) rules line.0 class
-still_none sizes rules n class b st a line f first covered r m stays h none = none_later sizes rules n class st (applied st a) a.made line f first covered stays (alike_on (reach_lo n f) (reach_hi n f) b st a r m h) none
+still_none sizes rules n last class b st a line f first no_later covered r m stays h none =
+    none_later_at sizes rules n last class st (applied st a) a.made line f first no_later covered stays (alike_on (reach_lo n f) (reach_hi n f) b st a r m h) none
 
 -- ---- lines that stay
 abbrev pub Triple : Type 0

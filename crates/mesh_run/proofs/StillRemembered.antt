@@ -1,10 +1,14 @@
--- What a run remembers stays true over an application, where what lies near its elements is forgotten.
-use Rattle.std.proofs.Common.{BTreeSet, max, ◌≡◌, ℕ, ◌<◌, ◌≤◌, ◌≤ℤ◌, ◌⊎◌, inl, inr, List, [], ◌∷◌, ◌++◌, length, map, slice_index_or, sym, ap, ◌∙◌, subst, arith, Option, None, Some, IfSome, ℤ}
+-- What a run remembers stays true over an application, where what was looked at near its elements is forgotten.
+use Rattle.std.proofs.Common.{BTreeSet, max, ◌≡◌, ℕ, ◌<◌, ◌≤◌, ◌<ℤ◌, ◌≤ℤ◌, ◌⊎◌, inl, inr, Bool, true, false, ◌&&◌, List, [], ◌∷◌, ◌++◌, length, map, slice_index_or, refl, sym, ap, ◌∙◌, subst, arith, Option, None, Some, IfSome, ℤ}
+use lib.Signed.{le_z}
 use Rattle.std.specs.List.{AllByRecursion, Contains}
+use Rattle.std.proofs.lemmas.Int.{ints}
 use Rattle.std.proofs.lemmas.List.Elements.{recursion_from_All}
 use Rattle.grid_geom.specs.declared.Bounds.{Bounds}
 use Rattle.grid_geom.specs.declared.Point.{Point}
 use Rattle.grid_geom.specs.declared.Edge.{Edge}
+use Rattle.digital_tree.specs.declared.Entry.{Entry}
+use Rattle.digital_tree.specs.Entries.{is_hit}
 use Rattle.rule_maps.specs.Frame.{IsFrameOf}
 use Rattle.size_field.specs.Size.{SizeField, size_at}
 use Rattle.state_law.specs.Saved.{AreInBox}
@@ -14,15 +18,16 @@ use Rattle.state_law.proofs.LineNumbers.{glued_rising}
 use Rattle.admission.proofs.Order.{same_points}
 use Rattle.admission.specs.Admission.{glued_on}
 use Rattle.rule_match.specs.declared.application.Application.{Application}
-use Rattle.rule_match.specs.declared.out_of_reach.Distance.{Distance}
 use Rattle.rule_match.specs.Candidate.{Attempt, IsCandidate}
 use Rattle.rule_match.specs.Least.{HasNone, IsOf}
-use Rattle.rule_match.specs.Near.{IsCoveredBy, IsFarLine, IsReachAtMost}
+use Rattle.rule_match.specs.Near.{AreBoxesApart, IsCoveredAt, IsFarLine, IsReachBox}
+use Rattle.rule_match.proofs.ReachBoxes.{far_by_box}
 use Rattle.mesh_run.specs.declared.refusals.Refusals.{Refusals}
+use Rattle.mesh_run.specs.declared.refusals.Region.{Region}
 use Rattle.mesh_run.specs.Reached.{IsReached, MayBeApplied}
-use Rattle.mesh_run.specs.Remembered.{AreTrue, DoesRemember, IsForgottenNear, IsInArea}
-use Rattle.mesh_run.specs.Worklist.{AreToTry, AreTriedAgain, AreTriedFirst, DoesStay, IsToTry, IsTriedFirst, least_open}
-use Rattle.mesh_run.proofs.Tried.{still_first}
+use Rattle.mesh_run.specs.Remembered.{AreCovering, AreTrue, DoesRemember, HasRegion, IsForgottenNear, IsInArea, IsRegion}
+use Rattle.mesh_run.specs.Worklist.{AreToTry, AreTriedAgain, AreTriedFirst, DoesStay, IsOn, IsToTry, least_open}
+use Rattle.mesh_run.proofs.Tried.{still_on}
 use Rattle.mesh_run.specs.RunState.{RunParts, run_of, setting_by}
 use Rattle.mesh_run.specs.Steps.{RunSetting, IsNext, applied, with_points}
 use Rattle.mesh_run.proofs.GoesOn.{IsPushed, of_front, put_holds}
@@ -64,16 +69,35 @@ rising_on : (w : State) (els : List (List ℕ)) → AreRising w.front w.next →
 rising_on w [] r = r
 rising_on w (ns ∷ els) r = rising_on (glued w ns) els (glued_rising w ns r)
 
--- a line reaches as far where its ends have the same places
-moved_reach : (sizes : SizeField) (points later : List Point) (n : ℕ) (steps : ℤ) (from to : ℕ) → point_at later from ≡ point_at points from → point_at later to ≡ point_at points to → IsReachAtMost sizes points n steps from to → IsReachAtMost sizes later n steps from to
-moved_reach sizes points later n steps from to e g h = record {
+-- a line has the same box where its ends have the same places
+moved_box : (sizes : SizeField) (points later : List Point) (n from to : ℕ) (box : Bounds) → point_at later from ≡ point_at points from → point_at later to ≡ point_at points to → IsReachBox sizes points n from to box → IsReachBox sizes later n from to box
+moved_box sizes points later n from to box e g h = record {
   frame = h.frame;
   is_frame = h.is_frame;
   framed = subst (λ (p : Point). IsFrameOf p (point_at later to) (size_at sizes h.frame.middle) h.frame) (sym e)
       (subst (λ (p : Point). IsFrameOf (point_at points from) p (size_at sizes h.frame.middle) h.frame) (sym g) h.framed);
-  positive = h.positive;
-  within = h.within;
+  left = h.left;
+  right = h.right;
+  below = h.below;
+  above = h.above;
 }
+
+-- a box that doesn't meet an area is apart from it
+missed_apart : (area : Bounds) (e : Entry Region) → is_hit area e ≡ false → AreBoxesApart e.bounds.lo e.bounds.hi area.lo area.hi
+missed_apart area e h = by (le_z e.bounds.lo.x area.hi.x) (le_z area.lo.x e.bounds.hi.x) (le_z e.bounds.lo.y area.hi.y) (le_z area.lo.y e.bounds.hi.y) refl refl refl refl h
+  where
+    greater : (u w : ℤ) → le_z u w ≡ false → w <ℤ u
+    greater u w e = grind (arith, ints)
+
+    wrong : true ≡ false → ⊥
+    wrong e = cc
+
+    by : (p q r t : Bool) → le_z e.bounds.lo.x area.hi.x ≡ p → le_z area.lo.x e.bounds.hi.x ≡ q → le_z e.bounds.lo.y area.hi.y ≡ r → le_z area.lo.y e.bounds.hi.y ≡ t → (p && q && r && t) ≡ false → AreBoxesApart e.bounds.lo e.bounds.hi area.lo area.hi
+    by false q r t a b c d h = inl (greater e.bounds.lo.x area.hi.x a)
+    by true false r t a b c d h = inr (inl (greater area.lo.x e.bounds.hi.x b))
+    by true true false t a b c d h = inr (inr (inl (greater e.bounds.lo.y area.hi.y c)))
+    by true true true false a b c d h = inr (inr (inr (greater area.lo.y e.bounds.hi.y d)))
+    by true true true true a b c d h = absurd (wrong h)
 
 some : (class m : ℕ) → class < m → 0 < m
 some class m l = omega arith
@@ -82,8 +106,15 @@ clash : (line next : ℕ) → line < next → next ≤ line → ⊥
 clash line next l k = omega arith
 
 -- ---- what is remembered stays true
+-- the line's region at the class, which doesn't meet the area, and is still there
+record IsMissed (m after : Refusals) (sizes : SizeField) (points : List Point) (area : Bounds) (line : Triple) (class : ℕ) : Type 0 where
+  entry : Entry Region
+  region : IsRegion m.reaches.items sizes points line class entry
+  missed : is_hit area entry ≡ false
+  there : Contains after.regions.entries entry
+
 module _ (s : RunSetting) (b : List Edge) (st : State) (a : Application) (before after : Refusals) (r : IsReached b st) (m : MayBeApplied st a) (rising : AreRising st.front st.next)
-    (h : AreTrue before s st) (f : IsForgottenNear s.sizes st a before after) where
+    (h : AreTrue before s st) (f : IsForgottenNear st a before after) where
   -- each later line was there, or has a new number
   old_or_new : (line : Triple) → Contains (applied st a).front line → Contains st.front line ⊎ (st.next ≤ line.0)
   old_or_new line c = contained (IsOldOrNew st.front st.next) (applied st a).front line (elements_on st.front st.next (with_points st a.made) a.elements (level st.next) (all_old st.front st.next st.front (λ l k. k))) c
@@ -92,13 +123,33 @@ module _ (s : RunSetting) (b : List Edge) (st : State) (a : Application) (before
       level n = omega arith
 
   was_given : (line : ℕ) → 0 < slice_index_or after.least.items line 0 → line < st.next
-  was_given line p = h.reaching.given line (subst (λ (v : ℕ). 0 < v) (f.kept.same line p) p)
+  was_given line p = h.reaching.given line (before_too (slice_index_or before.least.items line 0) (slice_index_or after.least.items line 0) (f.less line) p)
+    where
+      before_too : (m n : ℕ) → n ≤ m → 0 < n → 0 < m
+      before_too m n l p = omega arith
 
-  -- an old line whose reach is apart from the elements has no candidate where it had none
-  far_none : (line class : ℕ) → 1 ≤ class → IsFarLine s.sizes st before.reach f.area.lo f.area.hi line → HasNone s.sizes st s.rules line class → HasNone s.sizes (applied st a) s.rules line class
-  far_none line class first far none =
-      subst (λ (n : ℕ). HasNone s.sizes (applied st a) s.rules n class) far.numbered
-      (still_none s.sizes s.rules before.reach class b st a far.line far.frame first h.covers r m
+  -- a class of an old line that is still remembered has a region that was missed
+  missed : (line : Triple) (class : ℕ) → Contains st.front line → 1 ≤ class → class < slice_index_or after.least.items line.0 0 → IsMissed before after s.sizes st.points f.area line class
+  missed line class c first l = by (f.each has.entry has.there)
+    where
+      further : (class n m : ℕ) → class < n → n ≤ m → class < m
+      further class n m l k = omega arith
+
+      never : (class first n : ℕ) → class < n → first ≤ class → n ≤ first → ⊥
+      never class first n l k j = omega arith
+
+      has : HasRegion before s.sizes st.points line class
+      has = h.reaching.regions line class c first (further class (slice_index_or after.least.items line.0 0) (slice_index_or before.least.items line.0 0) l (f.less line.0))
+
+      by : (slice_index_or after.least.items has.entry.value.line 0 ≤ has.entry.value.class) ⊎ ((is_hit f.area has.entry ≡ false) × Contains after.regions.entries has.entry) → IsMissed before after s.sizes st.points f.area line class
+      by (inl gone) = absurd (never class has.entry.value.class (slice_index_or after.least.items line.0 0) l has.region.from (subst (λ (n : ℕ). slice_index_or after.least.items n 0 ≤ has.entry.value.class) has.region.of_line gone))
+      by (inr k) = record { entry = has.entry; region = has.region; missed = k.0; there = k.1 }
+
+  -- so an old line has no candidate where it had none
+  far_none : (n last line class : ℕ) → 1 ≤ class → class ≤ last → AllByRecursion (IsCoveredAt last n) s.rules → IsFarLine s.sizes st n f.area.lo f.area.hi line → HasNone s.sizes st s.rules line class → HasNone s.sizes (applied st a) s.rules line class
+  far_none n last line class first no_later covered far none =
+      subst (λ (k : ℕ). HasNone s.sizes (applied st a) s.rules k class) far.numbered
+      (still_none s.sizes s.rules n last class b st a far.line far.frame first no_later covered r m
       (record { on_front = far.on_front; same = λ other c e. stays_same st a far.line other rising far.on_front c e; frame = far.is_frame; framed = far.framed })
       (record {
         least = f.area.lo;
@@ -107,27 +158,30 @@ module _ (s : RunSetting) (b : List Edge) (st : State) (a : Application) (before
         apart = far.apart;
         elements = boxed f.area (st.points ++ a.made) a.elements (recursion_from_All (Holds f.area (st.points ++ a.made)) a.elements f.holds);
       })
-      (subst (λ (n : ℕ). HasNone s.sizes st s.rules n class) (sym far.numbered) none))
+      (subst (λ (k : ℕ). HasNone s.sizes st s.rules k class) (sym far.numbered) none))
+
+  old_none : (line : Triple) (class : ℕ) → Contains st.front line → 1 ≤ class → class < slice_index_or after.least.items line.0 0 → HasNone s.sizes st s.rules line.0 class → HasNone s.sizes (applied st a) s.rules line.0 class
+  old_none line class c first l =
+      let k = missed line class c first l in let n = slice_index_or before.reaches.items k.region.last 0 in
+      far_none n k.region.last line.0 class first k.region.no_less (h.covers.covers k.region.last k.region.tried)
+      (far_by_box s.sizes st n line k.entry.bounds f.area c k.region.holds f.on_grid (missed_apart f.area k.entry k.missed))
 
   none_after : (line class : ℕ) → 1 ≤ class → class < slice_index_or after.least.items line 0 → HasNone s.sizes (applied st a) s.rules line class
   none_after line class first l = record { none = λ t o c. by t o (old_or_new t.line o.on_front) c }
     where
-      p : 0 < slice_index_or after.least.items line 0
-      p = some class (slice_index_or after.least.items line 0) l
+      before_too : (m n : ℕ) → class < n → n ≤ m → class < m
+      before_too m n l k = omega arith
 
       by : (t : Attempt) → IsOf s.sizes (applied st a) s.rules line class t → Contains st.front t.line ⊎ (st.next ≤ t.line.0) → IsCandidate (applied st a) t → ⊥
       by t o (inl k) c =
-          let far = subst (IsFarLine s.sizes st before.reach f.area.lo f.area.hi) o.same_line (f.kept.far t.line k (subst (λ (n : ℕ). 0 < slice_index_or after.least.items n 0) (sym o.same_line) p)) in
-          let had = h.remembered.none line class first (subst (λ (v : ℕ). class < v) (f.kept.same line p) l) in
-          (far_none line class first far had).none t o c
-      by t o (inr k) c = clash line st.next (was_given line p) (subst (λ (n : ℕ). st.next ≤ n) o.same_line k)
+          let had = h.remembered.none line class first (before_too (slice_index_or before.least.items line 0) (slice_index_or after.least.items line 0) l (f.less line)) in
+          let now = old_none t.line class k first (subst (λ (n : ℕ). class < slice_index_or after.least.items n 0) (sym o.same_line) l) (subst (λ (n : ℕ). HasNone s.sizes st s.rules n class) (sym o.same_line) had) in
+          (subst (λ (n : ℕ). HasNone s.sizes (applied st a) s.rules n class) o.same_line now).none t o c
+      by t o (inr k) c = clash line st.next (was_given line (some class (slice_index_or after.least.items line 0) l)) (subst (λ (n : ℕ). st.next ≤ n) o.same_line k)
 
-  -- its reach goes no further than before
-  abbrev Within : State → ℕ → Distance → Type 0
-  Within w n far = (line : Triple) → Contains w.front line → 0 < slice_index_or after.least.items line.0 0 → IsReachAtMost s.sizes w.points n far.steps line.1 line.2
-
-  within_after : (far : Distance) → ((line : Triple) → Contains st.front line → 0 < slice_index_or before.least.items line.0 0 → IsReachAtMost s.sizes st.points before.reach far.steps line.1 line.2) → Within (applied st a) before.reach far
-  within_after far w line c p = by (old_or_new line c)
+  -- and the region is one in the later state
+  has_after : (line : Triple) (class : ℕ) → Contains (applied st a).front line → 1 ≤ class → class < slice_index_or after.least.items line.0 0 → HasRegion after s.sizes (applied st a).points line class
+  has_after line class c first l = by (old_or_new line c)
     where
       points : (applied st a).points ≡ st.points ++ a.made
       points = same_points (with_points st a.made) a.elements
@@ -135,26 +189,31 @@ module _ (s : RunSetting) (b : List Edge) (st : State) (a : Application) (before
       place : (n : ℕ) → IsListed (length st.points) n → point_at (applied st a).points n ≡ point_at st.points n
       place n l = ap (λ (ps : List Point). point_at ps n) points ∙ point_kept st.points a.made n l
 
-      by : Contains st.front line ⊎ (st.next ≤ line.0) → IsReachAtMost s.sizes (applied st a).points before.reach far.steps line.1 line.2
+      by : Contains st.front line ⊎ (st.next ≤ line.0) → HasRegion after s.sizes (applied st a).points line class
       by (inl k) =
           let listed = contained (λ other. IsListed (length st.points) other.1 × IsListed (length st.points) other.2) st.front line r.numbered.lines_listed k in
-          moved_reach s.sizes st.points (applied st a).points before.reach far.steps line.1 line.2 (place line.1 listed.0) (place line.2 listed.1)
-          (w line k (subst (λ (v : ℕ). 0 < v) (f.kept.same line.0 p) p))
-      by (inr k) = absurd (clash line.0 st.next (was_given line.0 p) k)
-
-  all_within : (o : Option Distance) → IfSome o (λ far. (line : Triple) → Contains st.front line → 0 < slice_index_or before.least.items line.0 0 → IsReachAtMost s.sizes st.points before.reach far.steps line.1 line.2)
-      → IfSome o (Within (applied st a) before.reach)
-  all_within None w = tt
-  all_within (Some far) w = within_after far w
+          let i = missed line class k first l in
+          record {
+            entry = i.entry;
+            there = i.there;
+            region = subst (λ (ns : List ℕ). IsRegion ns s.sizes (applied st a).points line class i.entry) (sym f.reaches) (record {
+              of_line = i.region.of_line;
+              from = i.region.from;
+              last = i.region.last;
+              no_less = i.region.no_less;
+              tried = i.region.tried;
+              holds = moved_box s.sizes st.points (applied st a).points (slice_index_or before.reaches.items i.region.last 0) line.1 line.2 i.entry.bounds (place line.1 listed.0) (place line.2 listed.1) i.region.holds;
+            });
+          }
+      by (inr k) = absurd (clash line.0 st.next (was_given line.0 (some class (slice_index_or after.least.items line.0 0) l)) k)
 
   pub still_true : AreTrue after s (applied st a)
   still_true = record {
     remembered = record { none = none_after };
-    covers = subst (λ (n : ℕ). AllByRecursion (IsCoveredBy n) s.rules) (sym f.reach) h.covers;
+    covers = subst (AreCovering s.rules) (sym f.reaches) h.covers;
     reaching = record {
       given = λ line p. below line st.next (applied st a).next (was_given line p) (next_on (with_points st a.made) a.elements);
-      within = subst (λ (n : ℕ). IfSome after.widest (Within (applied st a) n)) (sym f.reach)
-          (subst (λ (o : Option Distance). IfSome o (Within (applied st a) before.reach)) (sym f.widest) (all_within before.widest h.reaching.within));
+      regions = has_after;
     };
   }
     where
@@ -186,12 +245,11 @@ module _ (s : RunSetting) (b : List Edge) (st : State) (a : Application) (before
       split n = grind arith
 
       by : (line : Triple) → Contains (applied st a).front line → least_open after.least.items line.0 ≤ s.last → Contains st.front line ⊎ (st.next ≤ line.0) → IsToTry work (least_open after.least.items line.0, line.0)
-      by line c l (inl k) = here (again.again line.0) (split (slice_index_or after.least.items line.0 0))
+      by line c l (inl k) = here (again.again line.0)
         where
-          here : (slice_index_or after.least.items line.0 0 ≡ slice_index_or before.least.items line.0 0) ⊎ IsTriedFirst left line.0 → (slice_index_or after.least.items line.0 0 ≡ 0) ⊎ (0 < slice_index_or after.least.items line.0 0) → IsToTry work (least_open after.least.items line.0, line.0)
-          here (inl e) z = same was left to_try again.stay new.stay line k l e
-          here (inr t) (inl z) = at_first line.0 z (still_first left (Some work) line.0 new.stay t)
-          here (inr t) (inr p) = same was left to_try again.stay new.stay line k l (f.kept.same line.0 p)
+          here : (slice_index_or after.least.items line.0 0 ≡ slice_index_or before.least.items line.0 0) ⊎ IsOn left (least_open after.least.items line.0, line.0) → IsToTry work (least_open after.least.items line.0, line.0)
+          here (inl e) = same was left to_try again.stay new.stay line k l e
+          here (inr on) = still_on left (Some work) (least_open after.least.items line.0, line.0) new.stay on
       by line c l (inr k) = here (split (slice_index_or after.least.items line.0 0))
         where
           here : (slice_index_or after.least.items line.0 0 ≡ 0) ⊎ (0 < slice_index_or after.least.items line.0 0) → IsToTry work (least_open after.least.items line.0, line.0)
@@ -200,7 +258,7 @@ module _ (s : RunSetting) (b : List Edge) (st : State) (a : Application) (before
 
 pub remembers_after : (p : RunParts) (a : Application) (same after : FrontState) (applications : List Application) (before left : Refusals) (was kept now : Option (BTreeSet (ℕ × ℕ))) → DoesRemember (run_of p) before was
     → IsNext (setting_by (run_of p).basis) (run_of p).state a → IsFrontState same → MayBeApplied (state_of same) a → IsPushed p a same after applications
-    → IsForgottenNear p.sizes (state_of same) a before left → AreTriedAgain (record { least = before.least.items; work = was }) (record { least = left.least.items; work = kept }) → AreTriedFirst same.next after.next kept now
+    → IsForgottenNear (state_of same) a before left → AreTriedAgain (record { least = before.least.items; work = was }) (record { least = left.least.items; work = kept }) → AreTriedFirst same.next after.next kept now
     → DoesRemember (run_of (record p { front = after; applications = applications })) left now
 remembers_after p a same after applications before left was kept now h next front may pushed f again new =
     let s = setting_by (run_of p).basis in

@@ -1,5 +1,5 @@
 -- Turns come by class, then by line: what comes before the first turn on the worklist is refused, since else it would be on the worklist.
-use Rattle.std.proofs.Common.{◌≡◌, ℕ, ◌+◌, ◌-◌, ◌<◌, ◌≤◌, ◌⊎◌, inl, inr, max, Bool, true, false, cond, List, [], ◌∷◌, length, slice_index_or, refl, sym, ap, ◌∙◌, subst, arith, Some, is_some, nat_cmp, is_gt, is_eq, Ordering, Less, Equal, Greater, BTreeSet}
+use Rattle.std.proofs.Common.{◌≡◌, ℕ, ◌+◌, ◌-◌, ◌<◌, ◌≤◌, ◌⊎◌, inl, inr, max, Bool, true, false, cond, List, [], ◌∷◌, slice_index_or, refl, sym, ap, ◌∙◌, subst, arith, Option, None, Some, is_some, nat_cmp, is_gt, is_eq, Ordering, Less, Equal, Greater, BTreeSet}
 use Rattle.std.specs.List.{Contains, list_any}
 use Rattle.std.specs.Ordering.{ordering_then, match_ordering}
 use Rattle.std.specs.BTreeMap.{is_at}
@@ -11,6 +11,7 @@ use Rattle.rule_match.specs.declared.application.Application.{Application}
 use Rattle.rule_match.specs.Best.{IsBest}
 use Rattle.rule_match.specs.Candidate.{Attempt, IsCandidate}
 use Rattle.rule_match.specs.Least.{HasNone, IsOf}
+use Rattle.rule_match.proofs.BaseLines.{line_there}
 use Rattle.rule_match.proofs.Gathered.{line_numbered}
 use Rattle.mesh_run.specs.Remembered.{AreRemembered, IsNoted}
 use Rattle.mesh_run.specs.Steps.{RunSetting, IsNext, NothingApplies}
@@ -123,6 +124,23 @@ module _ (front : List (ℕ × ℕ × ℕ)) (refused : List ℕ) (last : ℕ) (k
           here : ((least_open refused line.0, line.0) ≡ k) ⊎ IsToTry before (least_open refused line.0, line.0) → IsToTry after (least_open later line.0, line.0)
           here (inl e) = let i : line.0 ≡ k.1 = ap (λ (q : Turn). q.1) e in at_next line.0 i (ap (λ (n : ℕ). slice_index_or later n 0) i ∙ there) l
           here (inr on) = subst (λ (n : ℕ). IsToTry after (n, line.0)) (sym as_open) (stay (least_open refused line.0, line.0) on)
+
+  -- its line is open at no earlier class, since else the line would be on at that class
+  pub no_sooner : (work : Work) → AreToTry work front refused last → IsLowerBound turn_cmp work k → IsOpenTurn front refused last k → k.0 ≤ least_open refused k.1
+  no_sooner work h lower o = by (compared k.0 (least_open refused k.1)) (line_at front k.1) refl o.on_front
+    where
+      compared : (m n : ℕ) → (m ≤ n) ⊎ (n < m)
+      compared m n = grind arith
+
+      within : (a b c : ℕ) → a ≤ b → b ≤ c → a ≤ c
+      within a b c l m = omega arith
+
+      by : (k.0 ≤ least_open refused k.1) ⊎ (least_open refused k.1 < k.0) → (ends : Option (ℕ × ℕ)) → line_at front k.1 ≡ ends → is_some ends ≡ true → k.0 ≤ least_open refused k.1
+      by (inl l) ends e there = l
+      by (inr l) None e there = absurd cc
+      by (inr l) (Some ends) e there =
+          let on = h.each (k.1, ends.0, ends.1) (line_there front k.1 ends e) (within (least_open refused k.1) k.0 last o.class o.last_class) in
+          absurd (clash (sym (earlier_less k (least_open refused k.1, k.1) (inl l)) ∙ lower (least_open refused k.1, k.1) on))
 
 -- ---- what the first turn says
 module _ (s : RunSetting) (st : State) (refused : List ℕ) (work : Work) (remembered : AreRemembered refused s st) (to_try : AreToTry work st.front refused s.last) where

@@ -1,37 +1,41 @@
--- Refusals that a run remembers: classes at which a front line was found to have no candidate. An application touches a front line
--- where the line's reach meets the box of the corners of its elements; what is remembered of lines that it touches is
--- forgotten, and of no others.
+-- Refusals that a run remembers: classes at which a front line was found to have no candidate, each with a box that holds all that
+-- was looked at to find it. An application touches what is remembered where the box of the corners of its elements meets such a
+-- box. This is forgotten, and nothing else.
 --
 -- AreRemembered   what is remembered of each line is true
--- AreReaching     and the reach of no remembered line goes further than the widest
+-- AreCovering     reaches by class, each of which covers the rules up to its class
+-- IsRegion        an entry is the region of a line at a class; HasRegion, a line has one
+-- AreReaching     and each class that is remembered of a front line has a region
 -- AreTrue         all of these; IsEmpty, nothing is remembered
--- IsInArea        a place lies in a closed box; IsWider, a box holds another one; IsWidenedBy, it goes so far beyond it
--- AreLookedAt     what is remembered after lines were looked at again
--- AreAround       numbers of the front lines near an area
--- AreKept         what is remembered is as before, and only of lines whose reach is apart from an area
+-- IsInArea        a place lies in a closed box; IsWider, a box holds another one
+-- AreStill        entries that stay
+-- IsForgotten     what is remembered once an entry is forgotten; AreForgotten, once a list of entries is
 -- IsForgottenNear what is remembered after forgetting near an application's elements
 -- IsNoted         one more refusal is remembered; AreSameRefusals, none is
 -- setting_in      what is searched; state_in, the state that is looked at
 -- DoesRemember    a run keeps its state, what it remembers is true, and its front lines are to be tried
 -- IsApartFrom     an application's elements lie in a box apart from another one
-use Rattle.std.specs.Prelude.{ℕ, ◌≡◌, ◌⊎◌, ◌≤◌, ◌<◌, ℤ, ◌+ℤ◌, ◌-ℤ◌, ◌≤ℤ◌, List, [], ◌++◌, length, map, slice_index_or, Option, None, Some, IfSome}
+use Rattle.std.specs.Prelude.{ℕ, ◌≡◌, ◌≢◌, ◌⊎◌, ◌≤◌, ◌<◌, ◌≤ℤ◌, false, List, [], ◌++◌, length, map, slice_index_or, Option, IfSome}
 use Rattle.std.specs.BTreeSet.{BTreeSet}
 use Rattle.std.specs.List.{All, AllByRecursion, Contains}
 use Rattle.grid_geom.specs.declared.Bounds.{Bounds}
 use Rattle.grid_geom.specs.declared.Point.{Point}
+use Rattle.grid_geom.specs.Boxes.{DoBoundsMeet}
+use Rattle.digital_tree.specs.declared.Entry.{Entry}
+use Rattle.digital_tree.specs.Entries.{is_hit}
 use Rattle.size_field.specs.Size.{SizeField}
 use Rattle.state_law.specs.Saved.{AreInBox}
 use Rattle.state_law.specs.State.{State, corners_of, point_at}
 use Rattle.rule_reader.specs.declared.rule.Rule.{Rule}
-use Rattle.front_chain.specs.Front.{FrontState, AreNear, state_of}
+use Rattle.front_chain.specs.Front.{state_of}
 use Rattle.rule_match.specs.declared.application.Application.{Application}
-use Rattle.rule_match.specs.declared.out_of_reach.Distance.{Distance}
 use Rattle.rule_match.specs.Least.{HasNone}
-use Rattle.rule_match.specs.Near.{AreBoxesApart, IsBox, IsCoveredBy, IsFarLine, IsReachAtMost}
+use Rattle.rule_match.specs.Near.{AreBoxesApart, IsBox, IsCoveredAt, IsReachBox, whole_grid}
 use Rattle.mesh_run.specs.declared.refusals.Refusals.{Refusals}
+use Rattle.mesh_run.specs.declared.refusals.Region.{Region}
 use Rattle.mesh_run.specs.declared.search.Scene.{Scene}
 use Rattle.mesh_run.specs.Steps.{RunSetting}
-use Rattle.mesh_run.specs.Worklist.{Lessened, AreToTry, AreTriedAgain}
+use Rattle.mesh_run.specs.Worklist.{AreToTry}
 use Rattle.mesh_run.specs.RunState.{RunState, IsRunState, setting_by}
 
 -- ---- what is remembered
@@ -40,23 +44,43 @@ pub record AreRemembered (refused : List ℕ) (s : RunSetting) (st : State) : Ty
   pub none : (line class : ℕ) → 1 ≤ class → class < slice_index_or refused line 0
       → HasNone s.sizes st s.rules line class
 
--- something is remembered only of numbers that lines have or had; and a remembered front line reaches no further than the widest
+-- the reach at each class up to 16 covers the rules up to the class
+pub record AreCovering (rules : List Rule) (reaches : List ℕ) : Type 0 where
+  pub long : 16 < length reaches
+  pub covers : (class : ℕ) → class < length reaches
+      → AllByRecursion (IsCoveredAt class (slice_index_or reaches class 0)) rules
+
+-- the entry is of the line, from a class on that is no greater, and its box holds all that is looked at on the line at the class, or at one no less
+pub record IsRegion (reaches : List ℕ) (sizes : SizeField) (points : List Point) (line : ℕ × ℕ × ℕ) (class : ℕ) (e : Entry Region) : Type 0 where
+  pub of_line : e.value.line ≡ line.0
+  pub from : e.value.class ≤ class
+  pub last : ℕ
+  pub no_less : class ≤ last
+  pub tried : last < length reaches
+  pub holds : IsReachBox sizes points (slice_index_or reaches last 0) line.1 line.2 e.bounds
+
+-- one of the entries is the line's region at the class
+pub record HasRegion (m : Refusals) (sizes : SizeField) (points : List Point) (line : ℕ × ℕ × ℕ) (class : ℕ) : Type 0 where
+  pub entry : Entry Region
+  pub there : Contains m.regions.entries entry
+  pub region : IsRegion m.reaches.items sizes points line class entry
+
+-- something is remembered only of numbers that lines have or had; and each class that is remembered of a front line has a region
 pub record AreReaching (m : Refusals) (sizes : SizeField) (st : State) : Type 0 where
   pub given : (line : ℕ) → 0 < slice_index_or m.least.items line 0 → line < st.next
-  pub within : IfSome m.widest (λ far. (line : ℕ × ℕ × ℕ) → Contains st.front line
-      → 0 < slice_index_or m.least.items line.0 0
-      → IsReachAtMost sizes st.points m.reach far.steps line.1 line.2)
+  pub regions : (line : ℕ × ℕ × ℕ) (class : ℕ) → Contains st.front line → 1 ≤ class
+      → class < slice_index_or m.least.items line.0 0 → HasRegion m sizes st.points line class
 
--- what is remembered is true, and the reach covers the rules
+-- what is remembered is true, and the reaches cover the rules
 pub record AreTrue (m : Refusals) (s : RunSetting) (st : State) : Type 0 where
   pub remembered : AreRemembered m.least.items s st
-  pub covers : AllByRecursion (IsCoveredBy m.reach) s.rules
+  pub covers : AreCovering s.rules m.reaches.items
   pub reaching : AreReaching m s.sizes st
 
--- nothing is remembered
-pub record IsEmpty (rules : List Rule) (m : Refusals) : Type 0 where
+-- nothing is remembered, and the reaches are these
+pub record IsEmpty (reaches : List ℕ) (m : Refusals) : Type 0 where
   pub nothing : m.least.items ≡ []
-  pub covers : AllByRecursion (IsCoveredBy m.reach) rules
+  pub reaches_are : m.reaches.items ≡ reaches
 
 -- as much is remembered of each line
 pub record AreSameRefusals (before after : List ℕ) : Type 0 where
@@ -66,11 +90,6 @@ pub record AreSameRefusals (before after : List ℕ) : Type 0 where
 pub record IsNoted (before after : List ℕ) (line least : ℕ) : Type 0 where
   pub each : (other : ℕ) → (slice_index_or after other 0 ≡ slice_index_or before other 0)
       ⊎ ((other ≡ line) × (slice_index_or after other 0 ≡ least))
-
--- the distance is known, and the other one is no less
-abbrev pub IsNoFarther : Option Distance → Distance → Type 0
-IsNoFarther None far = ⊥
-IsNoFarther (Some d) far = d.steps ≤ℤ far.steps
 
 -- ---- boxes
 -- the elements' corners lie in a box that is apart from the box from lo to hi
@@ -96,55 +115,41 @@ pub record IsWider (area wider : Bounds) : Type 0 where
   pub below : wider.lo.y ≤ℤ area.lo.y
   pub above : area.hi.y ≤ℤ wider.hi.y
 
--- the second box goes so far beyond the first on each side
-pub record IsWidenedBy (area : Bounds) (steps : ℤ) (wide : Bounds) : Type 0 where
-  pub left : wide.lo.x ≡ area.lo.x -ℤ steps
-  pub below : wide.lo.y ≡ area.lo.y -ℤ steps
-  pub right : wide.hi.x ≡ area.hi.x +ℤ steps
-  pub above : wide.hi.y ≡ area.hi.y +ℤ steps
-
--- the distance is known, and the second box goes so far beyond the first
-abbrev pub IsAroundBy : Bounds → Option Distance → Bounds → Type 0
-IsAroundBy area None around = ⊥
-IsAroundBy area (Some far) around = IsWidenedBy area far.steps around
-
 -- ---- what is forgotten
--- what is remembered of any line is as before or nothing; and where something still is of this line, its reach is apart from the area
-pub record IsLookedAt (sizes : SizeField) (f : FrontState) (n : ℕ) (area : Bounds) (line : ℕ) (before after : Lessened) : Type 0 where
-  pub same : (other : ℕ) → 0 < slice_index_or after.least other 0
-      → slice_index_or after.least other 0 ≡ slice_index_or before.least other 0
-  pub far : 0 < slice_index_or after.least line 0
-      → IsFarLine sizes (state_of f) n area.lo area.hi line
-  pub again : AreTriedAgain before after
+-- each entry of before is there
+pub record AreStill (before after : List (Entry Region)) : Type 0 where
+  pub each : (e : Entry Region) → Contains before e → Contains after e
 
--- so it is of each line with one of these numbers
-pub record AreLookedAt (sizes : SizeField) (f : FrontState) (n : ℕ) (area : Bounds) (lines : List ℕ) (before after : Lessened) : Type 0 where
-  pub same : (other : ℕ) → 0 < slice_index_or after.least other 0
-      → slice_index_or after.least other 0 ≡ slice_index_or before.least other 0
-  pub far : (i : ℕ) → i < length lines → 0 < slice_index_or after.least (slice_index_or lines i 0) 0
-      → IsFarLine sizes (state_of f) n area.lo area.hi (slice_index_or lines i 0)
-  pub again : AreTriedAgain before after
+-- of no line more is remembered, and of the entry's line nothing from its class on; and entries with other keys stay
+pub record IsForgotten (e : Entry Region) (before after : Refusals) : Type 0 where
+  pub reaches : after.reaches.items ≡ before.reaches.items
+  pub less : (line : ℕ)
+      → slice_index_or after.least.items line 0 ≤ slice_index_or before.least.items line 0
+  pub forgotten : slice_index_or after.least.items e.value.line 0 ≤ e.value.class
+  pub others : (other : Entry Region) → Contains before.regions.entries other
+      → other.key ≢ e.key → Contains after.regions.entries other
 
--- these are the numbers of the front lines near a box that goes so far beyond the area
-pub record AreAround (f : FrontState) (area : Bounds) (far : Option Distance) (lines : List ℕ) : Type 0 where
-  pub around : Bounds
-  pub wide : IsAroundBy area far around
-  pub near : AreNear f around lines
+-- so it is with these entries
+pub record AreForgotten (es : List (Entry Region)) (before after : Refusals) : Type 0 where
+  pub reaches : after.reaches.items ≡ before.reaches.items
+  pub less : (line : ℕ)
+      → slice_index_or after.least.items line 0 ≤ slice_index_or before.least.items line 0
+  pub forgotten : All (λ e. slice_index_or after.least.items e.value.line 0 ≤ e.value.class) es
+  pub others : (other : Entry Region) → Contains before.regions.entries other
+      → All (λ e. other.key ≢ e.key) es → Contains after.regions.entries other
 
--- what is remembered of any line is as before or nothing; and the reach of each front line of which something is remembered is apart from the area
-pub record AreKept (sizes : SizeField) (st : State) (n : ℕ) (area : Bounds) (before after : List ℕ) : Type 0 where
-  pub same : (line : ℕ) → 0 < slice_index_or after line 0
-      → slice_index_or after line 0 ≡ slice_index_or before line 0
-  pub far : (line : ℕ × ℕ × ℕ) → Contains st.front line → 0 < slice_index_or after line.0 0
-      → IsFarLine sizes st n area.lo area.hi line.0
-
--- the area holds the corners of the application's elements, and what is still remembered is of lines whose reach is apart from the area
-pub record IsForgottenNear (sizes : SizeField) (st : State) (a : Application) (before after : Refusals) : Type 0 where
+-- the area holds the corners of the application's elements. Of no line more is remembered; and for each entry of before, of its line
+-- nothing is from its class on, or its box doesn't meet the area, and it is still there
+pub record IsForgottenNear (st : State) (a : Application) (before after : Refusals) : Type 0 where
   pub area : Bounds
   pub holds : All (λ ns. All (λ n. IsInArea area (point_at (st.points ++ a.made) n)) ns) a.elements
-  pub kept : AreKept sizes st before.reach area before.least.items after.least.items
-  pub reach : after.reach ≡ before.reach
-  pub widest : after.widest ≡ before.widest
+  pub on_grid : DoBoundsMeet area whole_grid
+  pub reaches : after.reaches.items ≡ before.reaches.items
+  pub less : (line : ℕ)
+      → slice_index_or after.least.items line 0 ≤ slice_index_or before.least.items line 0
+  pub each : (e : Entry Region) → Contains before.regions.entries e
+      → (slice_index_or after.least.items e.value.line 0 ≤ e.value.class)
+      ⊎ ((is_hit area e ≡ false) × Contains after.regions.entries e)
 
 -- ---- what is searched
 -- what a search stands on, and the state that it looks at

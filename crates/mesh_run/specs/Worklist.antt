@@ -10,6 +10,7 @@
 -- AreToTryBut   so it is, but for one turn
 -- AreRefusedBefore   no line has a candidate at a turn before this one
 -- tries_left    how often the worklist's lines may still be tried
+-- IsOn          a turn is on the worklist, if that is known; IsTriedAgain, it was put on
 -- AreTriedAgain what was to be tried still is, and so are lines of which something was forgotten
 -- AreTriedFirst so it is with lines that are new
 use Rattle.std.specs.Prelude.{ℕ, ◌≡◌, ◌⊎◌, ◌+◌, ◌-◌, ◌≤◌, ◌<◌, max, List, [], ◌∷◌, slice_index_or, Option, None, Some, IfSome, IsSome, IsTrue}
@@ -73,27 +74,27 @@ DoesStay before None = Unit {0}
 DoesStay None (Some after) = ⊥
 DoesStay (Some before) (Some after) = (turn : ℕ × ℕ) → IsToTry before turn → IsToTry after turn
 
--- the line is to be tried at the first class, unless what is to be tried isn't known
-abbrev pub IsTriedFirst : Option (BTreeSet (ℕ × ℕ)) → ℕ → Type 0
-IsTriedFirst known line = IfSome known (λ work. IsToTry work (1, line))
+-- the turn is on the worklist, unless what is to be tried isn't known
+abbrev pub IsOn : Option (BTreeSet (ℕ × ℕ)) → ℕ × ℕ → Type 0
+IsOn known turn = IfSome known (λ work. IsToTry work turn)
 
--- what was to be tried still is, and the line is to be tried at the first class
-pub record IsTriedAgain (line : ℕ) (before after : Option (BTreeSet (ℕ × ℕ))) : Type 0 where
+-- what was to be tried still is, and so is the turn
+pub record IsTriedAgain (turn : ℕ × ℕ) (before after : Option (BTreeSet (ℕ × ℕ))) : Type 0 where
   pub stay : DoesStay before after
-  pub again : IsTriedFirst after line
+  pub again : IsOn after turn
 
--- so it is with each line from one number up to another
+-- what was to be tried still is, and each line from one number up to another is at the first class
 pub record AreTriedFirst (from to : ℕ) (before after : Option (BTreeSet (ℕ × ℕ))) : Type 0 where
   pub stay : DoesStay before after
-  pub again : (line : ℕ) → from ≤ line → line < to → IsTriedFirst after line
+  pub again : (line : ℕ) → from ≤ line → line < to → IsOn after (1, line)
 
 -- refusals, and what is to be tried where that is known
 pub record Lessened : Type 0 where
   pub least : List ℕ
   pub work : Option (BTreeSet (ℕ × ℕ))
 
--- what was to be tried still is, and each line of which something was forgotten is to be tried at the first class
+-- what was to be tried still is, and each line of which something was forgotten is to be tried at the least class that is open to it
 pub record AreTriedAgain (before after : Lessened) : Type 0 where
   pub stay : DoesStay before.work after.work
   pub again : (line : ℕ) → (slice_index_or after.least line 0 ≡ slice_index_or before.least line 0)
-      ⊎ IsTriedFirst after.work line
+      ⊎ IsOn after.work (least_open after.least line, line)

@@ -5,11 +5,13 @@ ghost use Rattle.geom_check.specs.Domains.{domain_numbers};
 ghost use Rattle.rule_match.specs.Idle.{NoneApplies};
 ghost use Rattle.mesh_run.specs.Mesh.{NamesItsPoints};
 ghost use Rattle.mesh_run.specs.Opening.{mesh_points};
+ghost use Rattle.mesh_run.specs.Remembered.{AreCovering};
 ghost use Rattle.mesh_run.specs.RunState.{AreOptions};
 ghost use Rattle.mesh_run.specs.Runs.{pieces_by, IsDomainRun, IsWholeRun};
 
 use super::ground::Ground;
 use super::opening::{number_mesh, open_domain};
+use super::refusals::reaches_of;
 use super::whole::whole_end;
 use super::{DomainRun, DomainRuns, Gate, Options, Run, WholeRun};
 use geom_check::{Geometry, domain_numbers};
@@ -61,6 +63,7 @@ fn run_domain<L: Ledger>(
     requires pieces { ground.now.pieces.now
         ≡ pieces_by ground.now.geometry.now ground.now.options.now }
     requires mesh { ground.now.mesh.now ≡ mesh_points ground.now.pieces.now }
+    requires reaches { AreCovering ground.now.rules.now ground.now.reaches.now }
     ensures run { IfOk result (IsDomainRun ground.now.geometry.now ground.now.rules.now
         ground.now.options.now domain) }
     ensures names { IfOk result NamesItsPoints }
@@ -84,6 +87,7 @@ fn run_domains<G: Gate>(
     requires pieces { ground.now.pieces.now
         ≡ pieces_by ground.now.geometry.now ground.now.options.now }
     requires mesh { ground.now.mesh.now ≡ mesh_points ground.now.pieces.now }
+    requires reaches { AreCovering ground.now.rules.now ground.now.reaches.now }
     ensures runs { IfOk result (λ v. AllZip
         (IsDomainRun ground.now.geometry.now ground.now.rules.now
         ground.now.options.now) (domain_numbers ground.now.geometry.now.segments) v.items) }
@@ -118,11 +122,13 @@ pub fn run_all<R: Threads + Sync, G: Gate + Sync>(
 {
     let pieces = cut(alloc, geometry, options.greatest, options.grading)?;
     let mesh = number_mesh(alloc, pieces.as_slice())?.points(alloc)?;
+    let reaches = reaches_of(alloc, rules)?;
     let ground = Ground {
         pieces: &pieces,
         mesh: &mesh,
         geometry,
         rules,
+        reaches: &reaches,
         options,
     };
     let runs = run_domains(alloc, &ground, gate)?;

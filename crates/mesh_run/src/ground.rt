@@ -15,5 +15,7 @@ pub struct Ground<'g, 'a> {
     pub mesh: &'g [Point],
     pub geometry: &'g Geometry,
     pub rules: &'a RuleSet<'a>,
+    /// By class, how far the rules reach up to it, in frame heights.
+    pub reaches: &'g [u64],
     pub options: &'g Options,
 }

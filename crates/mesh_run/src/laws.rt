@@ -5,7 +5,7 @@ ghost use Rattle.std.specs.List.{AllByRecursion, AllZip, Contains, IsDistinct};
 ghost use Rattle.rule_maps.specs.Frame.{LocalFrame};
 ghost use Rattle.size_field.specs.Size.{SizeField};
 ghost use Rattle.rule_match.specs.Least.{HasNone};
-ghost use Rattle.rule_match.specs.Near.{IsCoveredBy, IsStayingLine, reach_hi, reach_lo};
+ghost use Rattle.rule_match.specs.Near.{IsCoveredAt, IsStayingLine, reach_hi, reach_lo};
 ghost use Rattle.mesh_run.specs.Remembered.{IsApartFrom};
 ghost use Rattle.grid_geom.specs.Bounds.{IsOnGrid};
 ghost use Rattle.grid_geom.specs.Closed.{same_point};
@@ -227,11 +227,13 @@ pub fn law_ends()
 {}
 
 /// A refusal stays true: a front line whose reach lies apart from an application's elements has no
-/// candidate at a class after the application, where it had none before. `n` covers the rules.
+/// candidate at a class after the application, where it had none before. `n` covers the rules up to this
+/// class, or to a greater one, and so it does where it covers them at all classes.
 pub fn law_still()
-    ensures none { (sizes : SizeField) (rules : List Rule) (n class : ℕ) (b : List Edge) (st : State)
-        (a : Application) (line : ℕ × ℕ × ℕ) (f : LocalFrame) → 1 ≤ class →
-        AllByRecursion (IsCoveredBy n) rules → IsReached b st → MayBeApplied st a →
+    ensures none { (sizes : SizeField) (rules : List Rule) (n last class : ℕ) (b : List Edge)
+        (st : State) (a : Application) (line : ℕ × ℕ × ℕ) (f : LocalFrame) → 1 ≤ class →
+        class ≤ last → AllByRecursion (IsCoveredAt last n) rules → IsReached b st →
+        MayBeApplied st a →
         IsStayingLine sizes st (applied st a) line f →
         IsApartFrom (reach_lo n f) (reach_hi n f) st a →
         HasNone sizes st rules line.0 class → HasNone sizes (applied st a) rules line.0 class }

@@ -1,34 +1,58 @@
 // What a run remembers of lines that have no candidate.
-ghost use Rattle.std.specs.Prelude.{ℕ, ◌≡◌, ◌+◌, ◌<◌, ◌≤◌, length, slice_index_or, IsSome, IfSome, OnOk};
+ghost use Rattle.std.specs.Prelude.{ℕ, ◌≡◌, ◌+◌, ◌-◌, ◌<◌, ◌≤◌, Some, length, slice_index_or, IsSome, IsTrue, IfOk, OnOk};
 ghost use Rattle.front_chain.specs.Front.{line_at};
 ghost use Rattle.rule_match.specs.Least.{HasNone};
-ghost use Rattle.mesh_run.specs.Remembered.{AreSameRefusals, AreTrue, IsEmpty, IsNoted, IsNoFarther, setting_in, state_in};
+ghost use Rattle.mesh_run.specs.Remembered.{AreCovering, AreSameRefusals, AreStill, AreTrue, HasRegion, IsEmpty, IsNoted, setting_in, state_in};
+ghost use Rattle.mesh_run.specs.Worklist.{least_open};
 
 use super::search::Scene;
+use digital_tree::Tree;
 use rule_maps::RuleSet;
-use rule_match::{Distance, greatest_reach, reach_beyond};
+use rule_match::{greatest_reach_at, reach_box};
 use std::alloc::{AllocError as OutOfMemory, Global};
 
+/// What was looked at to refuse a line: where nothing changes in the box of a region, the line has no
+/// candidate from the region's class on, as far as is remembered.
+#[derive(Clone, Copy, Debug)]
+pub struct Region {
+    pub line: u64,
+    pub class: u32,
+}
+
 /// What a run remembers of lines that have no candidate.
-#[derive(Debug, Drop)]
+#[derive(Drop)]
 pub struct Refusals {
     /// By line number, the least class at which the line may have a candidate, 0 where it isn't known.
     pub least: Vec<u64>,
-    /// A reach that covers the rules.
-    pub reach: u64,
-    /// How far the reach of a remembered line goes beyond its start at most, if that is known.
-    pub widest: Option<Distance>,
+    /// By class, a reach that covers the rules up to the class, in frame heights.
+    pub reaches: Vec<u64>,
+    /// The boxes of what was looked at.
+    pub regions: Tree<Region>,
+}
+
+/// A run tries classes up to this one at most.
+const LAST_CLASS: u32 = 16;
+
+/// By class, how far the rules reach up to it.
+pub fn reaches_of(alloc: Global, rules: &RuleSet<'_>) -> Result<Vec<u64>, OutOfMemory>
+    ensures { IfOk result (λ reaches. AreCovering rules.now reaches.items) }
+{
+    let mut reaches = Vec::new(alloc);
+    for class in 0..LAST_CLASS + 1 {
+        reaches.push(greatest_reach_at(alloc, rules, class)?)?;
+    }
+    Ok(reaches)
 }
 
 /// Nothing is remembered.
-pub fn no_refusals(alloc: Global, rules: &RuleSet<'_>) -> Refusals
-    ensures { IsEmpty rules.now result }
+pub fn no_refusals(alloc: Global, reaches: &[u64]) -> Result<Refusals, OutOfMemory>
+    ensures { IfOk result (IsEmpty reaches.now) }
 {
-    Refusals {
+    Ok(Refusals {
         least: Vec::new(alloc),
-        reach: greatest_reach(rules),
-        widest: Some(Distance { steps: 0 }),
-    }
+        reaches: reaches.to_vec(alloc)?,
+        regions: Tree::new(alloc),
+    })
 }
 
 /// Makes the table so long that the place is in it. What stands in it stays.
@@ -63,25 +87,52 @@ pub fn noted_at(table: &[u64], place: u64) -> u64
     }
 }
 
-/// The greater of two distances, if both are known.
-fn farther(first: &Option<Distance>, second: &Option<Distance>) -> Option<Distance>
-    ensures first { IfSome result (IsNoFarther first.now) }
-    ensures second { IfSome result (IsNoFarther second.now) }
+/// The reach that covers the rules up to the class.
+fn reach_at(refusals: &Refusals, class: u32) -> u64
+    ensures { result ≡ slice_index_or refusals.now.reaches.items class 0 }
 {
-    match (first, second) {
-        (Some(a), Some(b)) => {
-            if a.steps < b.steps {
-                Some(*b)
-            } else {
-                Some(*a)
-            }
-        }
-        _ => None,
-    }
+    noted_at(refusals.reaches.as_slice(), class as u64)
 }
 
-/// Remembers that a front line has no candidate up to a class, and how far the line reaches. It wasn't
-/// remembered at this class.
+/// Whether the rules reach no farther up to the class than up to the class before, that of a class which
+/// is tried.
+fn is_no_farther(refusals: &Refusals, class: u32) -> bool
+    ensures { IsTrue result → (2 ≤ class) × (slice_index_or refusals.now.reaches.items (class - 1) 0
+        ≡ slice_index_or refusals.now.reaches.items class 0) }
+{
+    class >= 2 && reach_at(refusals, class - 1) == reach_at(refusals, class)
+}
+
+/// Holds the region of a line at the first class that isn't remembered of it. Where rules reach no
+/// farther than up to the class before, the region of that class is this one too.
+fn hold(
+    scene: &Scene<'_, '_>,
+    refusals: &mut Refusals,
+    class: u32,
+    line: u64,
+) -> Result<(), OutOfMemory>
+    requires on_front { IsSome (line_at scene.now.front.now.lines line) }
+    requires last_class { class ≤ 16 }
+    requires first { class ≤ least_open refusals.old.least.items line }
+    requires remembered { AreTrue refusals.old (setting_in scene.now) (state_in scene.now) }
+    ensures least { refusals.new.least.items ≡ refusals.old.least.items }
+    ensures reaches { refusals.new.reaches.items ≡ refusals.old.reaches.items }
+    ensures stay { AreStill refusals.old.regions.entries refusals.new.regions.entries }
+    ensures held { OnOk result ((ends : ℕ × ℕ) →
+        line_at scene.now.front.now.lines line ≡ Some ends →
+        HasRegion refusals.new scene.now.sizes.now scene.now.front.now.points
+        (line, ends.0, ends.1) class) }
+{
+    if is_no_farther(refusals, class) {
+        return Ok(());
+    }
+    let reach = reach_at(refusals, class);
+    let bounds = reach_box(scene.front, scene.sizes, line, reach);
+    refusals.regions.insert(bounds, Region { line, class })?;
+    Ok(())
+}
+
+/// Remembers that a front line has no candidate up to a class, the first one that isn't remembered of it.
 pub fn remember(
     scene: &Scene<'_, '_>,
     refusals: &mut Refusals,
@@ -90,7 +141,7 @@ pub fn remember(
 ) -> Result<(), OutOfMemory>
     requires on_front { IsSome (line_at scene.now.front.now.lines line) }
     requires last_class { class ≤ 16 }
-    requires less { slice_index_or refusals.old.least.items line 0 ≤ class }
+    requires first { class ≤ least_open refusals.old.least.items line }
     requires none { (n : ℕ) → 1 ≤ n → n ≤ class → HasNone scene.now.sizes.now
         (state_in scene.now) scene.now.rules.now line n }
     requires remembered { AreTrue refusals.old (setting_in scene.now) (state_in scene.now) }
@@ -98,9 +149,7 @@ pub fn remember(
     ensures noted { IsNoted refusals.old.least.items refusals.new.least.items line (class + 1) }
     ensures there { OnOk result (slice_index_or refusals.new.least.items line 0 ≡ class + 1) }
 {
-    let front = scene.front;
-    let _lines = front.lines();
-    let far = reach_beyond(front, scene.sizes, line, refusals.reach);
-    refusals.widest = farther(&refusals.widest, &far);
+    let _lines = scene.front.lines();
+    hold(scene, refusals, class, line)?;
     note(&mut refusals.least, line, class as u64 + 1)
 }

@@ -4,6 +4,7 @@ ghost use Rattle.std.specs.List.{Contains};
 ghost use Rattle.geom_check.specs.Domains.{domain_numbers};
 ghost use Rattle.mesh_run.specs.Mesh.{NamesItsPoints};
 ghost use Rattle.mesh_run.specs.Opening.{mesh_points};
+ghost use Rattle.mesh_run.specs.Remembered.{AreCovering};
 ghost use Rattle.mesh_run.specs.Runs.{pieces_by};
 ghost use Rattle.mesh_run.specs.Steps.{IsNext, NothingApplies, IsSpent};
 
@@ -11,7 +12,7 @@ use super::applying::{copy_of, put};
 use super::ground::Ground;
 use super::left::{points_of, rows_of};
 use super::opening::{number_mesh, opening_of};
-use super::refusals::{Refusals, no_refusals};
+use super::refusals::{Refusals, no_refusals, reaches_of};
 use super::search::{Scene, find_next};
 use super::touched::forget_near;
 use super::worklist::Worklist;
@@ -87,6 +88,7 @@ impl<'a> Run<'a> {
         requires pieces { ground.now.pieces.now
             ≡ pieces_by ground.now.geometry.now ground.now.options.now }
         requires mesh { ground.now.mesh.now ≡ mesh_points ground.now.pieces.now }
+        requires reaches { AreCovering ground.now.rules.now ground.now.reaches.now }
         ensures { IfOk result (λ run. run ≡ opened_run ground.now.geometry.now ground.now.rules.now
             ground.now.options.now domain) }
     {
@@ -105,6 +107,7 @@ impl<'a> Run<'a> {
         let front = Front::open(alloc, points, opening.lines.as_slice())?;
         let (greatest, grading) = (options.greatest, options.grading);
         let sizes = sizes_of(alloc, geometry, ground.pieces, domain, greatest, grading)?;
+        let refusals = no_refusals(alloc, ground.reaches)?;
         Ok(Run {
             domain,
             options: *options,
@@ -114,7 +117,7 @@ impl<'a> Run<'a> {
             lines: opening.lines,
             front,
             applications: Vec::new(alloc),
-            refusals: no_refusals(alloc, ground.rules),
+            refusals,
             work: None,
         })
     }
@@ -138,11 +141,13 @@ impl<'a> Run<'a> {
             ≡ opened_run geometry.now rules.now options.now domain) }
     {
         let mesh = number_mesh(alloc, pieces.as_slice())?.points(alloc)?;
+        let reaches = reaches_of(alloc, rules)?;
         let ground = Ground {
             pieces,
             mesh: &mesh,
             geometry,
             rules,
+            reaches: &reaches,
             options,
         };
         Run::open_on(alloc, &ground, domain)
@@ -192,7 +197,6 @@ impl<'a> Run<'a> {
             &mut self.refusals,
             &mut self.work,
             &self.front,
-            &self.sizes,
             &application,
         );
         put(&mut self.front, &mut self.work, &application);

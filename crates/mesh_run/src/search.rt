@@ -2,7 +2,7 @@
 ghost use Rattle.std.specs.Prelude.{◌+◌, ◌-◌, ◌<◌, ◌≤◌, IfOk, IfSome, IfNone, OnOk};
 ghost use Rattle.mesh_run.specs.Steps.{IsNext, NothingApplies};
 ghost use Rattle.mesh_run.specs.Remembered.{AreTrue, setting_in, state_in};
-ghost use Rattle.mesh_run.specs.Worklist.{AreRefusedBefore, AreToTry, AreToTryBut, IsOpenTurn, tries_left};
+ghost use Rattle.mesh_run.specs.Worklist.{AreRefusedBefore, AreToTry, AreToTryBut, IsOpenTurn, least_open, tries_left};
 
 use super::Application;
 use super::refusals::{Refusals, remember};
@@ -38,6 +38,7 @@ fn try_turn<L: Ledger>(
     requires last_class { scene.now.last ≤ 16 }
     requires open { IsOpenTurn scene.now.front.now.lines refusals.old.least.items
         scene.now.last turn }
+    requires first { turn.0 ≤ least_open refusals.old.least.items turn.1 }
     requires before { AreRefusedBefore (setting_in scene.now) (state_in scene.now) turn }
     requires remembered { AreTrue refusals.old (setting_in scene.now) (state_in scene.now) }
     requires to_try { AreToTryBut turn work.old scene.now.front.now.lines

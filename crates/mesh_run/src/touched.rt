@@ -1,18 +1,19 @@
-// Which front lines an application may touch, and what is forgotten of them.
-ghost use Rattle.std.specs.Prelude.{◌≡◌, ◌<◌, ◌≤ℤ◌, ◌++◌, length, All, IfSome};
+// What an application touches, and what is forgotten of it.
+ghost use Rattle.std.specs.Prelude.{◌≡◌, ◌≤ℤ◌, ◌++◌, length, All};
 ghost use Rattle.std.specs.List.{AllByRecursion};
+ghost use Rattle.grid_geom.specs.Boxes.{DoBoundsMeet};
+ghost use Rattle.rule_match.specs.Near.{whole_grid};
 ghost use Rattle.state_law.specs.State.{IsListed, point_at};
 ghost use Rattle.front_chain.specs.Front.{state_of};
 ghost use Rattle.mesh_run.specs.Worklist.{AreTriedAgain};
-ghost use Rattle.mesh_run.specs.Remembered.{AreAround, AreLookedAt, AreReaching, IsAroundBy, IsForgottenNear, IsInArea, IsLookedAt, IsWidenedBy, IsWider};
+ghost use Rattle.mesh_run.specs.Remembered.{AreForgotten, IsForgotten, IsForgottenNear, IsInArea, IsWider};
 
 use super::Application;
-use super::refusals::{Refusals, noted_at};
+use super::refusals::{Refusals, Region, noted_at};
 use super::worklist::{Worklist, try_again};
+use digital_tree::{Entry, Key, Tree};
 use front_chain::Front;
 use grid_geom::{Bounds, Element, GRID, Point};
-use rule_match::{Distance, is_out_of_reach};
-use size_field::Sizes;
 use std::alloc::Global;
 
 /// The lesser of two coordinates.
@@ -77,7 +78,8 @@ fn with_element(area: &Bounds, front: &Front, made: &[Point], element: &[u64]) -
 /// A box that holds the corners of all these elements.
 pub fn area_of(front: &Front, made: &[Point], elements: &[Element]) -> Bounds
     requires { AllByRecursion (λ ns. AllByRecursion (IsListed (length (front.now.points ++ made.now))) ns) elements.now }
-    ensures { All (λ ns. All (λ n. IsInArea result (point_at (front.now.points ++ made.now) n)) ns) elements.now }
+    ensures holds { All (λ ns. All (λ n. IsInArea result (point_at (front.now.points ++ made.now) n)) ns) elements.now }
+    ensures on_grid { DoBoundsMeet result whole_grid }
 {
     let mut area = Bounds {
         lo: Point { x: GRID, y: GRID },
@@ -89,128 +91,63 @@ pub fn area_of(front: &Front, made: &[Point], elements: &[Element]) -> Bounds
     area
 }
 
-/// Forgets what is remembered of the line, unless its reach is apart from the area, and has it tried again.
-fn look_again(
-    least: &mut Vec<u64>,
-    work: &mut Option<Worklist>,
-    front: &Front,
-    sizes: &Sizes,
-    line: u64,
-    reach: u64,
-    area: &Bounds,
-)
-    ensures { IsLookedAt sizes.now front.now reach area.now line
-        (record { least = least.old.items; work = work.old })
-        (record { least = least.new.items; work = work.new }) }
+/// Forgets what is known by looking at the entry's box, and has its line tried again from the entry's class
+/// on. What is known of the line at classes before that was looked for in other boxes.
+fn forget(refusals: &mut Refusals, work: &mut Option<Worklist>, hit: &Entry<Region>)
+    ensures forgotten { IsForgotten hit.now refusals.old refusals.new }
+    ensures again { AreTriedAgain
+        (record { least = refusals.old.least.items; work = work.old })
+        (record { least = refusals.new.least.items; work = work.new }) }
 {
-    if noted_at(least.as_slice(), line) == 0 {
-        return;
-    }
-    if is_out_of_reach(front, sizes, line, reach, area) {
-        return;
-    }
-    least[line as usize] = 0;
-    try_again(work, line);
-}
-
-/// Looks again at the front lines with these numbers.
-fn look_at_all(
-    least: &mut Vec<u64>,
-    work: &mut Option<Worklist>,
-    front: &Front,
-    sizes: &Sizes,
-    lines: &[u64],
-    reach: u64,
-    area: &Bounds,
-)
-    ensures { AreLookedAt sizes.now front.now reach area.now lines.now
-        (record { least = least.old.items; work = work.old })
-        (record { least = least.new.items; work = work.new }) }
-{
-    for line in lines {
-        look_again(least, work, front, sizes, *line, reach, area);
+    let _held = refusals.regions.remove(hit.key);
+    let Region { line, class } = hit.value;
+    if (class as u64) < noted_at(refusals.least.as_slice(), line) {
+        refusals.least[line as usize] = class as u64;
+        try_again(work, (class.max(1), line));
     }
 }
 
-/// The box, widened on each side by the distance, if numbers hold it.
-fn widened_by(area: &Bounds, far: &Distance) -> Option<Bounds>
-    ensures { IfSome result (IsWidenedBy area.now far.now.steps) }
+/// Forgets what is known by looking at these entries' boxes.
+fn forget_all(refusals: &mut Refusals, work: &mut Option<Worklist>, hits: &[Entry<Region>])
+    ensures forgotten { AreForgotten hits.now refusals.old refusals.new }
+    ensures again { AreTriedAgain
+        (record { least = refusals.old.least.items; work = work.old })
+        (record { least = refusals.new.least.items; work = work.new }) }
 {
-    let left = area.lo.x.checked_sub(far.steps)?;
-    let below = area.lo.y.checked_sub(far.steps)?;
-    let right = area.hi.x.checked_add(far.steps)?;
-    let above = area.hi.y.checked_add(far.steps)?;
-    Some(Bounds {
-        lo: Point { x: left, y: below },
-        hi: Point { x: right, y: above },
-    })
-}
-
-/// The box round the area that meets the box of each remembered line whose reach meets the area, if one
-/// is known.
-fn around_of(area: &Bounds, widest: &Option<Distance>) -> Option<Bounds>
-    ensures { IfSome result (IsAroundBy area.now widest.now) }
-{
-    match widest {
-        Some(far) => widened_by(area, far),
-        None => None,
+    for hit in hits {
+        forget(refusals, work, hit);
     }
 }
 
-/// The numbers of the front lines among which is each remembered one whose reach meets the area, if a box
-/// round these is known and memory suffices.
-fn lines_around(
-    alloc: Global,
-    front: &Front,
-    area: &Bounds,
-    widest: &Option<Distance>,
-) -> Option<Vec<u64>>
-    ensures { IfSome result (λ lines. AreAround front.now area.now widest.now lines.items) }
-{
-    let around = around_of(area, widest)?;
-    front.near_lines(alloc, &around).ok()
-}
-
-/// Forgets what is remembered of each line whose reach meets the box of the application's elements, and
-/// has these lines tried again. Only lines near it are looked at; where these aren't known, or there is no
-/// memory for their numbers, all is forgotten.
+/// Forgets what is known by looking at boxes that meet the box of the application's elements, and has the
+/// lines tried again of which something is forgotten. Where there is no memory for these boxes' list, all is
+/// forgotten.
 pub fn forget_near(
     alloc: Global,
     refusals: &mut Refusals,
     work: &mut Option<Worklist>,
     front: &Front,
-    sizes: &Sizes,
     application: &Application,
 )
-    requires listed { AllByRecursion (λ ns. AllByRecursion
+    requires { AllByRecursion (λ ns. AllByRecursion
         (IsListed (length (front.now.points ++ application.now.made))) ns)
         application.now.elements }
-    requires reaching { AreReaching refusals.old sizes.now (state_of front.now) }
-    ensures forgotten { IsForgottenNear sizes.now (state_of front.now) application.now
+    ensures forgotten { IsForgottenNear (state_of front.now) application.now
         refusals.old refusals.new }
     ensures again { AreTriedAgain
         (record { least = refusals.old.least.items; work = work.old })
         (record { least = refusals.new.least.items; work = work.new }) }
 {
-    let _lines = front.lines();
     let (made, elements) = (application.made.as_slice(), application.elements.as_slice());
     let area = area_of(front, made, elements);
-    let reach = refusals.reach;
-    match lines_around(alloc, front, &area, &refusals.widest) {
-        Some(lines) => {
-            let numbers = lines.as_slice();
-            look_at_all(
-                &mut refusals.least,
-                work,
-                front,
-                sizes,
-                numbers,
-                reach,
-                &area,
-            );
-        }
-        None => {
+    // no two regions have one key
+    let _none = refusals.regions.get(Key { slot: 0 });
+    let mut hits = Vec::new(alloc);
+    match refusals.regions.push_hits(&area, &mut hits) {
+        Ok(()) => forget_all(refusals, work, hits.as_slice()),
+        Err(_) => {
             refusals.least.clear();
+            refusals.regions = Tree::new(alloc);
             *work = None;
         }
     }

@@ -120,14 +120,14 @@ pub fn move_on(work: &mut Worklist, turn: (u32, u64), last: u32) -> Result<(), O
     Ok(())
 }
 
-/// Puts a line on the worklist at the first class. Where there is no memory for it, what is to be tried
-/// isn't known any more, and the next search makes the worklist anew.
-#[tactic(auto, using(crate::proofs::Tried::put_first))]
-pub fn try_again(known: &mut Option<Worklist>, line: u64)
-    ensures { IsTriedAgain line known.old known.new }
+/// Puts a turn on the worklist. Where there is no memory for it, what is to be tried isn't known any more,
+/// and the next search makes the worklist anew.
+#[tactic(auto, using(crate::proofs::Tried::put_on))]
+pub fn try_again(known: &mut Option<Worklist>, turn: (u32, u64))
+    ensures { IsTriedAgain turn known.old known.new }
 {
     if let Some(work) = known {
-        if let Ok(_) = work.insert((1, line)) {
+        if let Ok(_) = work.insert(turn) {
             return;
         }
     }
@@ -139,6 +139,6 @@ pub fn try_first(known: &mut Option<Worklist>, from: u64, to: u64)
     ensures { AreTriedFirst from to known.old known.new }
 {
     for line in from..to {
-        try_again(known, line);
+        try_again(known, (1, line));
     }
 }

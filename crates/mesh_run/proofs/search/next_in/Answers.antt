@@ -1,10 +1,14 @@
 use Rattle.std.proofs.Common.{◌≡◌, true, false, refl}
 use Rattle.mesh_run.specs.Remembered.{setting_in, state_in}
-use Rattle.mesh_run.proofs.Turns.{none_before, not_missed, nothing_left, taken_off}
+use Rattle.mesh_run.proofs.Turns.{no_sooner, none_before, not_missed, nothing_left, taken_off}
 use Rattle.mesh_run.proofs.search.next_in.Goals as goal
 
 no : false ≡ true → ⊥
 no e = cc
+
+pub try_turn-requires-clause-first : goal.try_turn-requires-clause-first
+try_turn-requires-clause-first g c =
+    no_sooner c.args.scene.now.front.now.lines c.loop-turn.refusals.least.items c.args.scene.now.last c.in-Some.turn c.loop-turn.work c.loop-turn.invariant.to_try c.in-Some.ensures.first (c.if-is_open.ensures.0 refl)
 
 pub try_turn-requires-clause-before : goal.try_turn-requires-clause-before
 try_turn-requires-clause-before g c =

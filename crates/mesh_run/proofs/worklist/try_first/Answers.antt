@@ -1,4 +1,3 @@
-use Rattle.std.proofs.Common.{arith}
 use Rattle.mesh_run.proofs.Tried.{none_first, one_more_first}
 use Rattle.mesh_run.proofs.worklist.try_first.Goals as goal
 

@@ -1,11 +1,9 @@
 use Rattle.std.proofs.Common.{List, [], ◌∷◌, ◌++◌, ◌<◌, sym, ap, ◌∙◌, subst}
-use Rattle.front_chain.specs.Front.{state_of}
 use Rattle.rule_match.specs.declared.application.Application.{Application}
 use Rattle.mesh_run.specs.declared.run.Run.TheInside.{Inside}
 use Rattle.mesh_run.specs.Steps.{IsNext}
 use Rattle.mesh_run.specs.RunState.{RunState, RunParts, setting_by, run_of, run_after, area_left}
 use Rattle.mesh_run.proofs.GoesOn.{IsPushed, may_be_put, put_run, some_elements, area_falls}
-use Rattle.mesh_run.proofs.Searched.{same_reaching}
 use Rattle.mesh_run.proofs.StillRemembered.{remembers_after}
 use Rattle.mesh_run.proofs.run.Run.apply.Goals as goal
 use Rattle.mesh_run.proofs.run.Run.apply.Goals.{After-push_reserved}
@@ -29,17 +27,12 @@ put-requires-clause-may c =
     may_be_put r.sizes r.rules.now (run_of (parts r)).state c.reserve-2.new.self c.args.application c.get.result.now c.lines-lines.ensures.holds
     (record { points = sym reserved.points; front = sym reserved.lines }) c.rule-rule.ensures.rule c.get.ensures next.best
 
-pub forget_near-requires-clause-listed : goal.forget_near-requires-clause-listed
-forget_near-requires-clause-listed c =
+pub forget_near-requires : goal.forget_near-requires
+forget_near-requires c =
     let r = c.self.inside in let reserved = c.reserve-2.ensures in
     let next = subst (λ (s : RunState). IsNext (setting_by s.basis) s.state c.args.application) (sym c.self.view_is) c.requires.next in
     (may_be_put r.sizes r.rules.now (run_of (parts r)).state c.reserve-2.new.self c.args.application c.get.result.now c.lines-lines.ensures.holds
     (record { points = sym reserved.points; front = sym reserved.lines }) c.rule-rule.ensures.rule c.get.ensures next.best).listed
-
-pub forget_near-requires-clause-reaching : goal.forget_near-requires-clause-reaching
-forget_near-requires-clause-reaching c =
-    let r = c.self.inside in let reserved = c.reserve-2.ensures in
-    same_reaching r.refusals r.sizes (run_of (parts r)).state (state_of c.reserve-2.new.self) (record { points = sym reserved.points; front = sym reserved.lines }) reserved.next c.self.invariant.remembered.reaching
 
 pushed : (c : After-push_reserved) → IsPushed (parts c.self.inside) c.args.application c.reserve-2.new.self c.put.new.front c.push_reserved.new.self.items
 pushed c = record {

@@ -41,7 +41,7 @@ invariant_of-result c =
       sizes = c.in_ok-sizes.ensures;
       applications = c.new.ensures.items;
     } in
-    opened_remembers c.args.ground.now.geometry.now parts c.no_refusals.result (set_up c.args.ground.now.geometry.now parts c.segments-segments.result.now c.args.ground.now.pieces.now c.in_ok-opening.opening.points made) c.requires.options c.no_refusals.ensures
+    opened_remembers c.args.ground.now.geometry.now parts c.args.ground.now.reaches.now c.in_ok-refusals.refusals (set_up c.args.ground.now.geometry.now parts c.segments-segments.result.now c.args.ground.now.pieces.now c.in_ok-opening.opening.points made) c.requires.options c.requires.reaches c.in_ok-refusals.ensures
 
 pub returns : goal.returns
 returns c =

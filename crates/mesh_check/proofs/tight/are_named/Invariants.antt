@@ -1,6 +1,0 @@
-use Rattle.std.proofs.Common.{◌≡◌, length}
-use Rattle.mesh_check.proofs.Noted.{AreNamed}
-use Rattle.mesh_check.proofs.tight.are_named.Given as goal
-
-abbrev pub invariant-loop-element : goal.invariant-loop-element
-invariant-loop-element l = (length l.noted.items ≡ l.count) × AreNamed l.noted.items l.elements l.element-index
