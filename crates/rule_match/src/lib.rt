@@ -31,6 +31,7 @@ mod near;
 mod noting;
 mod out_of_reach;
 mod progress;
+mod refused;
 mod rule_search;
 mod squares;
 #[cfg(test)]
@@ -50,6 +51,7 @@ pub use out_of_reach::{
     Distance, greatest_reach, greatest_reach_at, is_out_of_reach, reach_beyond, reach_box,
 };
 pub use progress::{Note, Progress};
+pub use refused::again;
 pub use squares::{MOST_SIDES, element_badness};
 pub use std::alloc::AllocError as OutOfMemory;
 pub use trying::Trying;
