@@ -1,10 +1,12 @@
 //! The first word of a call that is at fault, numbers and names among them.
 
-ghost use Rattle.std.specs.Prelude.{◌≡◌, true, false, ◌&&◌, ℕ, List, ◌∷◌, map, string_bytes, IfSome, IfNone};
+ghost use Rattle.std.specs.Prelude.{◌≡◌, true, false, ◌&&◌, ℕ, List, ◌∷◌, map, string_bytes};
+ghost use Rattle.std.specs.Prelude.{IfSome, IfNone};
 ghost use Rattle.std.specs.Option.{option_copied};
 ghost use Rattle.call_words.specs.Commands.{AreOptions};
 ghost use Rattle.call_words.specs.Begun.{IsFirstOff, StandsFor, IsFirstAtFault};
-ghost use Rattle.call_words.specs.Walks.{range_of, IsRight, mesh_behind, course_seen, FitsRight, IsOnCourse, LeadsTo};
+ghost use Rattle.call_words.specs.Walks.{range_of, IsRight, mesh_behind, course_seen, FitsRight};
+ghost use Rattle.call_words.specs.Walks.{IsOnCourse, LeadsTo};
 ghost use Rattle.call_words.specs.WordsRead.{given_of};
 ghost use Rattle.call_words.specs.Forms.{takes_options};
 ghost use Rattle.call_words.specs.declared.command.MeshOptions.{MeshOptions};
@@ -51,16 +53,18 @@ fn is_right(verb: Verb, place: usize, mesh: Option<&str>, word: &str) -> bool
 
 /// Whether each option that is set has a value.
 fn have_values(settings: &Settings<'_>) -> bool
-    ensures right { result ≡ true → (options : MeshOptions) × AreOptions (given_of settings.now) options }
-    ensures wrong { result ≡ false → (options : MeshOptions) → ¬ AreOptions (given_of settings.now) options }
+    ensures right { result ≡ true
+        → (options : MeshOptions) × AreOptions (given_of settings.now) options }
+    ensures wrong { result ≡ false
+        → (options : MeshOptions) → ¬ AreOptions (given_of settings.now) options }
 {
     options_of(settings).is_ok()
 }
 
 /// The name of the mesh behind the word, which is a place.
 fn mesh_behind<'a>(course: &Course<'a>, word: &'a str) -> Option<&'a str>
-    ensures { option_copied result ≡ mesh_behind course.now.names course.now.walk.passed word.entry.now
-        (option_copied course.now.mesh) }
+    ensures { option_copied result ≡ mesh_behind course.now.names course.now.walk.passed
+        word.entry.now (option_copied course.now.mesh) }
 {
     if course.names && course.walk.passed == 2 {
         Some(word)
@@ -101,7 +105,8 @@ fn led_on<'a>(verb: Verb, course: &Course<'a>, word: &'a str) -> Option<Course<'
 /// calls itself for each word that may stand there, which are few.
 fn fault_from<'a>(verb: Verb, course: &Course<'a>, words: &'a [String]) -> usize
     requires { IsOnCourse verb (course_seen course.now) }
-    ensures { IsFirstOff (FitsRight verb (course_seen course.now)) (map string_bytes words.entry.now) result }
+    ensures { IsFirstOff (FitsRight verb (course_seen course.now))
+        (map string_bytes words.entry.now) result }
 {
     let [word, rest @ ..] = words else {
         return 1;

@@ -1,6 +1,7 @@
 //! The first word after a verb that can't stand where it stands.
 
-ghost use Rattle.std.specs.Prelude.{◌≡◌, ◌≤◌, ◌+◌, length, map, string_bytes, option_map, MatchOption, None, Some, IfSome};
+ghost use Rattle.std.specs.Prelude.{◌≡◌, ◌≤◌, ◌+◌, length, map, string_bytes, option_map};
+ghost use Rattle.std.specs.Prelude.{MatchOption, None, Some, IfSome};
 ghost use Rattle.call_words.specs.Commands.{place_count};
 ghost use Rattle.call_words.specs.WordsRead.{given_of, halves, word_sort, setting_of};
 ghost use Rattle.call_words.specs.Forms.{takes_options};
@@ -122,7 +123,8 @@ fn free_option(verb: Verb, settings: &Settings<'_>, name: &str) -> Option<Settin
 
 /// The walk behind a word of this sort, where no option waits.
 fn walked_by<'a>(verb: Verb, walk: &Walk<'a>, sort: Sort<'a>) -> Option<Walk<'a>>
-    ensures { option_map walk_seen result ≡ walked_by verb (walk_seen walk.now) (sort_seen sort.entry) }
+    ensures { option_map walk_seen result
+        ≡ walked_by verb (walk_seen walk.now) (sort_seen sort.entry) }
 {
     match sort {
         Sort::Plain => placed(verb, walk),
@@ -177,7 +179,8 @@ pub(crate) fn walked_on<'a>(verb: Verb, walk: &Walk<'a>, word: &'a str) -> Optio
 /// calls itself for each word that may stand there, which are few.
 fn misfit_from<'a>(verb: Verb, walk: &Walk<'a>, words: &'a [String]) -> usize
     requires { IsSound verb (walk_seen walk.now) }
-    ensures { IsFirstOff (Fits verb (walk_seen walk.now)) (map string_bytes words.entry.now) result }
+    ensures { IsFirstOff (Fits verb (walk_seen walk.now))
+        (map string_bytes words.entry.now) result }
 {
     let [word, rest @ ..] = words else {
         return 1;

@@ -1,6 +1,7 @@
 //! Faults of the words of a call.
 
-ghost use Rattle.std.specs.Prelude.{◌≡◌, ◌≤◌, ◌<◌, ◌+◌, ◌-◌, true, false, Some, slice_get, length, map, string_bytes, IfSome, IfNone};
+ghost use Rattle.std.specs.Prelude.{◌≡◌, ◌≤◌, ◌<◌, ◌+◌, ◌-◌, true, false, Some, slice_get, length};
+ghost use Rattle.std.specs.Prelude.{map, string_bytes, IfSome, IfNone};
 ghost use Rattle.call_words.specs.Begun.{IsFirstMisfit, IsFirstAtFault};
 ghost use Rattle.call_words.specs.Commands.{IsFault};
 ghost use Rattle.call_words.specs.declared.words_fault.WordsFault.TheVariants.{Value, SameName};
