@@ -1,4 +1,7 @@
-//! What is said to a person, on standard error, of a call that was refused. No contract speaks of it.
+//! What is said to a person, on standard error, of a call that was refused. Contracts say of it that what the
+//! folder holds stays as it is, and nothing of the words.
+
+ghost use Rattle.std.specs.Prelude.{◌≡◌};
 
 use super::{FILE_LIMIT, RUN_FILE_LIMIT, Refusal};
 use call_words::{Command, WordsFault, read_words};
@@ -156,7 +159,9 @@ fn bytes_again<F: Folder>(
     folder: &mut F,
     name: &str,
     limit: u64,
-) -> Option<Vec<u8>> {
+) -> Option<Vec<u8>>
+    ensures held { (F.state folder.new).held ≡ (F.state folder.old).held }
+{
     if fs::metadata(rt, name).ok()?.is_file() {
         folder.take(alloc, name, limit).ok()
     } else {
@@ -199,7 +204,9 @@ pub fn write_sentence(rt: &HostRuntime, refused: &Refused<'_>) {
 }
 
 /// Says of a call with these words why it was refused. The file that is at fault is taken once more.
-pub fn say<F: Folder>(rt: &HostRuntime, folder: &mut F, words: &[String], refusal: &Refusal) {
+pub fn say<F: Folder>(rt: &HostRuntime, folder: &mut F, words: &[String], refusal: &Refusal)
+    ensures held { (F.state folder.new).held ≡ (F.state folder.old).held }
+{
     match refusal {
         Refusal::Words(fault) => {
             let fault = number_of_words(*fault);
@@ -255,7 +262,9 @@ fn refused_of<'a>(refusal: &Refusal, file: File<'a>, numbers: &'a [i128]) -> Ref
 }
 
 /// Says why a file was refused by what it holds.
-fn say_of_file<F: Folder>(rt: &HostRuntime, folder: &mut F, words: &[String], refusal: &Refusal) {
+fn say_of_file<F: Folder>(rt: &HostRuntime, folder: &mut F, words: &[String], refusal: &Refusal)
+    ensures held { (F.state folder.new).held ≡ (F.state folder.old).held }
+{
     let Ok(Ok(command)) = read_words(rt.alloc(), words) else {
         return;
     };

@@ -1,7 +1,8 @@
 -- The search over the rules: each candidate of a line stands as an assignment that its rule's search passes, and what is found over all rules is the least.
-use Rattle.std.proofs.Common.{◌≡◌, ℕ, suc, ◌+◌, ◌-◌, ◌<◌, ◌≤◌, true, List, [], ◌∷◌, length, slice_index_or, Option, None, Some, refl, sym, ap, ◌∙◌, subst, arith, inl, inr, ◌⊎◌}
+use Rattle.std.proofs.Common.{◌≡◌, ℕ, suc, ◌+◌, ◌-◌, ◌<◌, ◌≤◌, true, false, List, [], ◌∷◌, length, slice_index_or, Option, None, Some, refl, sym, ap, ◌∙◌, subst, arith, inl, inr, ◌⊎◌}
 use Rattle.std.specs.Prelude.{slice_get}
-use Rattle.std.specs.List.{Contains}
+use Rattle.std.specs.List.{AllByRecursion, Contains}
+use mathlib.Core.Bool.{true≢false}
 use Rattle.std.proofs.lemmas.Option.{slice_get_within, slice_get-get_or}
 use Rattle.grid_geom.specs.declared.Point.{Point}
 use Rattle.rule_reader.specs.declared.rule.Rule.{Rule}
@@ -12,7 +13,7 @@ use Rattle.rule_maps.specs.Inert.{IsLive, HasState}
 use Rattle.rule_maps.proofs.Frames.{one_frame}
 use Rattle.size_field.specs.Size.{SizeField, size_at}
 use Rattle.state_law.specs.State.{State, point_at, AreRising}
-use Rattle.front_chain.specs.Front.{FrontState, line_at, state_of}
+use Rattle.front_chain.specs.Front.{FrontState, edges_of, line_at, state_of}
 use Rattle.rule_match.specs.declared.found.Found.{Found}
 use Rattle.rule_match.specs.declared.near.NearPoint.{NearPoint}
 use Rattle.rule_match.specs.declared.progress.Progress.{Progress}
@@ -23,15 +24,25 @@ use Rattle.rule_match.specs.Order.{IsNoWorse}
 use Rattle.rule_match.specs.Candidate.{Attempt, IsCandidate}
 use Rattle.rule_match.specs.Least.{IsOf, IsLeast, HasNone, rank}
 use Rattle.rule_match.specs.Fitting.{fits_so_far}
-use Rattle.rule_match.specs.Trying.{ties}
+use Rattle.rule_match.specs.Trying.{near_at, ties}
 use Rattle.rule_match.specs.Around.{StandFor}
 use Rattle.rule_match.specs.Base.{BaseLine, IsBaseLine, IsBaseOf, Tried, attempt_of, numbers_at, setting_at}
 use Rattle.rule_match.specs.Idle.{NoneApplies, SomeMayApply}
-use Rattle.rule_match.specs.Passed.{IsPassed, IsOn, IsFind, IsFindIfAny, IsLeastSoFar, AreExcusedSoFar, IsSoFar, NoneMayApply, Holds, rank_of, state_at}
+use Rattle.rule_match.specs.Passed.{IsPassed, IsOn, IsFind, IsFindIfAny, IsLeastSoFar, AreExcusedSoFar, AllAsked, AreFreshAt, IsAgainSoFar, IsPassedAgain, IsSoFar, MapsOne, NoneMayApply, Holds, rank_of, state_at}
 use Rattle.rule_match.specs.declared.progress.Note.{Note}
-use Rattle.rule_match.specs.Refused.{IsAllowed, FitsFront, IsExcused, IsRefusedBy}
+use Rattle.rule_match.specs.Refused.{HasNoneAgain, HasOne, IsAllowed, FitsFront, IsExcused, IsRefusedAgain, IsRefusedBy}
+use Rattle.rule_match.specs.Noted.{HasExcuse}
+use Rattle.rule_match.specs.Walk.{IsAdvance, IsFresh, IsFrom}
+use Rattle.rule_match.proofs.Standing.{all_there, within}
+use Rattle.rule_match.proofs.NextPoint.{points_of}
+use Rattle.std.proofs.lemmas.Bool.{cases_lt, eqb-false}
+use Rattle.std.proofs.lemmas.List.Elements.{Contains-append_left, Contains-append_right}
+use Rattle.std.specs.Prelude.{is_some, nat_eq, ◌++◌}
+use Rattle.state_law.specs.Region.{IsRegion}
+use Rattle.state_law.proofs.Region.{region_front}
+use Rattle.std.proofs.lemmas.List.{get_or-map, length-map}
 use Rattle.rule_match.specs.MoreNotes.{excused_more}
-use Rattle.rule_match.proofs.Places.{allowed, on_its_front}
+use Rattle.rule_match.proofs.Places.{allowed, excused_none, on_its_front}
 use Rattle.rule_match.proofs.Advances.{none_before, no_worse_chain}
 use Rattle.rule_match.proofs.Gathered.{line_numbered}
 use Rattle.rule_match.proofs.Tried.{tried}
@@ -99,24 +110,26 @@ skipped b rules k rule best is never so_far = record { found = so_far.found; lea
         let same : t.text ≡ rule = text_at rules t.rule k t.text rule e on.is_rule is in
         absurd (never (subst IsLive same c.live) (subst (λ (n : ℕ). rule.quality ≤ n) on.class (subst (λ (r : Rule). r.quality ≤ t.class) same c.quality)))
 
--- a rule that is passed
-passed : (b : BaseLine) (rules : List Rule) (k : ℕ) (rule : Rule) (old new : Progress) → IsBaseLine b → slice_get rules k ≡ Some rule → IsPassed (record { base = b; number = k + 1; rule = rule }) old new
-    → IsLeastSoFar b rules k old.best → IsLeastSoFar b rules (k + 1) new.best
-passed b rules k rule old new line is p so_far = record { found = kept new.best p.advance.from; least = λ t on few c. by t on c (before_or_last t.rule k few) }
+-- what is found after a rule is passed is a find
+found_passed : (b : BaseLine) (rules : List Rule) (k : ℕ) (rule : Rule) (old new : Progress) → slice_get rules k ≡ Some rule →
+    IsAdvance (Holds (record { base = b; number = k + 1; rule = rule })) (rank_of (record { base = b; number = k + 1; rule = rule })) old new → IsFindIfAny b rules old.best → IsFindIfAny b rules new.best
+found_passed b rules k rule old new is advance before = kept new.best advance.from
   where
-    here : Tried
-    here = record { base = b; number = k + 1; rule = rule }
-
     mine : (a : List ℕ) → IsCandidate (state_of b.front) (attempt_of (record { base = b; number = k + 1; rule = rule }) a) → (r : Found) → r ≡ rank (state_of b.front) (attempt_of (record { base = b; number = k + 1; rule = rule }) a) → IsFind b rules r
     mine a c r e =
         let back : k + 1 - 1 ≡ k = omega arith in
         record { attempt = attempt_of (record { base = b; number = k + 1; rule = rule }) a; on = record { class = refl; line = refl; frame = refl; first = omega arith; is_rule = ap (slice_get rules) back ∙ is }; candidate = c; is = e }
 
-    kept : (o : Option Found) → Rattle.rule_match.specs.Walk.IsFrom (Holds (record { base = b; number = k + 1; rule = rule })) (rank_of (record { base = b; number = k + 1; rule = rule })) old.best o → IsFindIfAny b rules o
+    kept : (o : Option Found) → IsFrom (Holds (record { base = b; number = k + 1; rule = rule })) (rank_of (record { base = b; number = k + 1; rule = rule })) old.best o → IsFindIfAny b rules o
     kept None f = tt
-    kept (Some r) (inl e) = subst (IsFindIfAny b rules) e so_far.found
+    kept (Some r) (inl e) = subst (IsFindIfAny b rules) e before
     kept (Some r) (inr f) = mine f.0 f.1 r f.2
 
+-- a rule that is passed
+passed : (b : BaseLine) (rules : List Rule) (k : ℕ) (rule : Rule) (old new : Progress) → IsBaseLine b → slice_get rules k ≡ Some rule → IsPassed (record { base = b; number = k + 1; rule = rule }) old new
+    → IsLeastSoFar b rules k old.best → IsLeastSoFar b rules (k + 1) new.best
+passed b rules k rule old new line is p so_far = record { found = found_passed b rules k rule old new is p.advance so_far.found; least = λ t on few c. by t on c (before_or_last t.rule k few) }
+  where
     by : (t : Attempt) → IsOn b rules t → IsCandidate (state_at b) t → (t.rule ≤ k) ⊎ (t.rule ≡ k + 1) → IsNoWorse new.best (Some (rank (state_at b) t))
     by t on c (inl few) = no_worse_chain new.best old.best (Some (rank (state_at b) t)) p.advance.no_worse (so_far.least t on few c)
     by t on c (inr e) =
@@ -127,35 +140,43 @@ passed b rules k rule old new line is p so_far = record { found = kept new.best 
         (those.least a.assignment a.counted a.fits (subst (IsCandidate (state_at b)) (sym a.same) c))
 
 -- ---- reasons, rule after rule
-pub so_far_none : (b : BaseLine) (rules : List Rule) (p : Progress) → p.best ≡ None → IsSoFar b rules 0 p
-so_far_none b rules p e = record {
-  least = subst (IsLeastSoFar b rules 0) (sym e) (none_so_far b rules);
-  excused = record { excused = λ none noting t on few a h. absurd (no_rule t.rule on.first few) };
-}
+none_excused : (b : BaseLine) (rules : List Rule) (Asked : List ℕ → Type 0) (p : Progress) → AreExcusedSoFar b rules 0 Asked p
+none_excused b rules Asked p = record { excused = λ none noting t on few q a h. absurd (no_rule t.rule on.first few) }
   where
     no_rule : (n : ℕ) → 1 ≤ n → n ≤ 0 → ⊥
     no_rule n h k = omega (arith, h, k)
 
-skipped_excused : (b : BaseLine) (rules : List Rule) (k : ℕ) (rule : Rule) (p : Progress) → slice_get rules k ≡ Some rule → (IsLive rule → rule.quality ≤ b.class → ⊥) → AreExcusedSoFar b rules k p → AreExcusedSoFar b rules (k + 1) p
-skipped_excused b rules k rule p is never so_far = record { excused = λ none noting t on few a h. by none noting t on a h (before_or_last t.rule k few) }
+pub so_far_none : (b : BaseLine) (rules : List Rule) (p : Progress) → p.best ≡ None → IsSoFar b rules 0 p
+so_far_none b rules p e = record {
+  least = subst (IsLeastSoFar b rules 0) (sym e) (none_so_far b rules);
+  excused = none_excused b rules AllAsked p;
+}
+
+skipped_excused : (b : BaseLine) (rules : List Rule) (k : ℕ) (rule : Rule) (Asked : List ℕ → Type 0) (p : Progress) → slice_get rules k ≡ Some rule → (IsLive rule → rule.quality ≤ b.class → ⊥) → AreExcusedSoFar b rules k Asked p → AreExcusedSoFar b rules (k + 1) Asked p
+skipped_excused b rules k rule Asked p is never so_far = record { excused = λ none noting t on few q a h. by none noting t on q a h (before_or_last t.rule k few) }
   where
-    by : p.best ≡ None → b.noting ≡ true → (t : Attempt) → IsOn b rules t → IsAllowed (state_at b) t → FitsFront (state_at b) t → (t.rule ≤ k) ⊎ (t.rule ≡ k + 1) → IsExcused (state_at b) p.notes.items t
-    by none noting t on a h (inl few) = so_far.excused none noting t on few a h
-    by none noting t on a h (inr e) =
+    by : p.best ≡ None → b.noting ≡ true → (t : Attempt) → IsOn b rules t → Asked t.points → IsAllowed (state_at b) t → FitsFront (state_at b) t → (t.rule ≤ k) ⊎ (t.rule ≡ k + 1) → IsExcused (state_at b) p.notes.items t
+    by none noting t on q a h (inl few) = so_far.excused none noting t on few q a h
+    by none noting t on q a h (inr e) =
         let same : t.text ≡ rule = text_at rules t.rule k t.text rule e on.is_rule is in
         absurd (never (subst IsLive same a.live) (subst (λ (n : ℕ). rule.quality ≤ n) on.class (subst (λ (r : Rule). r.quality ≤ t.class) same a.quality)))
 
-passed_excused : (b : BaseLine) (rules : List Rule) (k : ℕ) (rule : Rule) (old new : Progress) → IsBaseLine b → slice_get rules k ≡ Some rule → IsPassed (record { base = b; number = k + 1; rule = rule }) old new → AreExcusedSoFar b rules k old → AreExcusedSoFar b rules (k + 1) new
-passed_excused b rules k rule old new line is p so_far = record { excused = λ none noting t on few a h. by none noting t on a h (before_or_last t.rule k few) }
+-- what a passed rule owes to the attempts that are asked for
+abbrev Excuses : Tried → (List ℕ → Type 0) → Progress → Type 0
+Excuses t Asked p = (c : List ℕ) → length c ≡ length t.rule.points → fits_so_far (ties (setting_at t)) c ≡ true → Asked (numbers_at t.base.near c) → p.best ≡ None → HasExcuse t p.notes.items c
+
+passed_excused : (b : BaseLine) (rules : List Rule) (k : ℕ) (rule : Rule) (Asked : List ℕ → Type 0) (old new : Progress) → IsBaseLine b → slice_get rules k ≡ Some rule →
+    IsAdvance (Holds (record { base = b; number = k + 1; rule = rule })) (rank_of (record { base = b; number = k + 1; rule = rule })) old new → Excuses (record { base = b; number = k + 1; rule = rule }) Asked new → AreExcusedSoFar b rules k Asked old → AreExcusedSoFar b rules (k + 1) Asked new
+passed_excused b rules k rule Asked old new line is advance excuses so_far = record { excused = λ none noting t on few q a h. by none noting t on q a h (before_or_last t.rule k few) }
   where
-    by : new.best ≡ None → b.noting ≡ true → (t : Attempt) → IsOn b rules t → IsAllowed (state_at b) t → FitsFront (state_at b) t → (t.rule ≤ k) ⊎ (t.rule ≡ k + 1) → IsExcused (state_at b) new.notes.items t
-    by none noting t on a h (inl few) = subst (λ (notes : List Note). IsExcused (state_at b) notes t) (sym p.advance.noted.1)
-        (excused_more (state_at b) old.notes.items p.advance.noted.0 t (so_far.excused (none_before new.best old.best p.advance.no_worse none) noting t on few a h))
-    by none noting t on a h (inr e) =
+    by : new.best ≡ None → b.noting ≡ true → (t : Attempt) → IsOn b rules t → Asked t.points → IsAllowed (state_at b) t → FitsFront (state_at b) t → (t.rule ≤ k) ⊎ (t.rule ≡ k + 1) → IsExcused (state_at b) new.notes.items t
+    by none noting t on q a h (inl few) = subst (λ (notes : List Note). IsExcused (state_at b) notes t) (sym advance.noted.1)
+        (excused_more (state_at b) old.notes.items advance.noted.0 t (so_far.excused (none_before new.best old.best advance.no_worse none) noting t on few q a h))
+    by none noting t on q a h (inr e) =
         let same : t.text ≡ rule = text_at rules t.rule k t.text rule e on.is_rule is in
-        let those : IsPassed (record { base = b; number = t.rule; rule = t.text }) old new = subst (λ (n : ℕ). IsPassed (record { base = b; number = n; rule = t.text }) old new) (sym e) (subst (λ (r : Rule). IsPassed (record { base = b; number = k + 1; rule = r }) old new) (sym same) p) in
+        let those : Excuses (record { base = b; number = t.rule; rule = t.text }) Asked new = subst (λ (n : ℕ). Excuses (record { base = b; number = n; rule = t.text }) Asked new) (sym e) (subst (λ (r : Rule). Excuses (record { base = b; number = k + 1; rule = r }) Asked new) (sym same) excuses) in
         let s = assigned b rules t line on a h in
-        subst (IsExcused (state_at b) new.notes.items) s.same (those.excused s.assignment s.counted s.fits none noting (subst (IsAllowed (state_at b)) (sym s.same) a))
+        subst (IsExcused (state_at b) new.notes.items) s.same (those s.assignment s.counted s.fits (subst (λ (u : Attempt). Asked u.points) (sym s.same) q) none noting (subst (IsAllowed (state_at b)) (sym s.same) a))
 
 -- the rule with a number from 1
 before_number : (n : ℕ) → 1 ≤ n → n - 1 + 1 ≡ n
@@ -168,14 +189,56 @@ pub skipped_at : (b : BaseLine) (rules : List Rule) (n : ℕ) (rule : Rule) (p :
     → IsSoFar b rules (n - 1) p → IsSoFar b rules n p
 skipped_at b rules n rule p h k is never so_far =
     let at = rule_is rules n rule h k is in
-    subst (λ (m : ℕ). IsSoFar b rules m p) (before_number n h) (record { least = skipped b rules (n - 1) rule p.best at never so_far.least; excused = skipped_excused b rules (n - 1) rule p at never so_far.excused })
+    subst (λ (m : ℕ). IsSoFar b rules m p) (before_number n h) (record { least = skipped b rules (n - 1) rule p.best at never so_far.least; excused = skipped_excused b rules (n - 1) rule AllAsked p at never so_far.excused })
 
 pub passed_at : (b : BaseLine) (rules : List Rule) (n : ℕ) (rule : Rule) (old new : Progress) → 1 ≤ n → n ≤ length rules → ((d : Rule) → slice_index_or rules (n - 1) d ≡ rule) → IsBaseLine b
     → IsPassed (record { base = b; number = n; rule = rule }) old new → IsSoFar b rules (n - 1) old → IsSoFar b rules n new
 passed_at b rules n rule old new h k is line p so_far =
     let at = rule_is rules n rule h k is in
     let here = subst (λ (m : ℕ). IsPassed (record { base = b; number = m; rule = rule }) old new) (sym (before_number n h)) p in
-    subst (λ (m : ℕ). IsSoFar b rules m new) (before_number n h) (record { least = passed b rules (n - 1) rule old new line at here so_far.least; excused = passed_excused b rules (n - 1) rule old new line at here so_far.excused })
+    subst (λ (m : ℕ). IsSoFar b rules m new) (before_number n h) (record { least = passed b rules (n - 1) rule old new line at here so_far.least; excused = passed_excused b rules (n - 1) rule AllAsked old new line at here.advance (λ c counted fits q. here.excused c counted fits) so_far.excused })
+
+-- ---- the assignments that map a fresh point
+fresh_assigned : (near : List NearPoint) (fresh positions b : List ℕ) → AreFreshAt near fresh positions → AllByRecursion (λ k. k < length near) b → MapsOne fresh (numbers_at near b) → IsFresh positions b
+fresh_assigned near fresh positions b at w m =
+    let within : m.0 < length b = subst (λ (n : ℕ). m.0 < n) (length-map b (λ k. (near_at near k).number)) m.2 in
+    (m.0, within, at (slice_index_or b m.0 0) (all_there (λ k. k < length near) b m.0 w within) (subst (Contains fresh) (sym m.3 ∙ get_or-map (λ k. (near_at near k).number) b m.0 0 m.1 within) m.4))
+
+-- positions while near points are looked at
+pub position_kept : (near : List NearPoint) (fresh positions new : List ℕ) (k : ℕ) → new ≡ positions ++ k ∷ [] → ((j : ℕ) → j < k → Contains fresh (near_at near j).number → Contains positions j) → (j : ℕ) → j < k + 1 → Contains fresh (near_at near j).number → Contains new j
+position_kept near fresh positions new k e h j l r = subst (λ (z : List ℕ). Contains z j) (sym e) (elim (cases_lt j k) [
+  | inl i ↦ Contains-append_left positions (k ∷ []) j (h j i r)
+  | inr i ↦ Contains-append_right positions (k ∷ []) j (0, omega arith, omega (arith, l, i))
+])
+
+pub position_passed : (near : List NearPoint) (fresh positions : List ℕ) (k number : ℕ) → number ≡ (near_at near k).number → ((i d : ℕ) → 0 ≤ i → i < length fresh → nat_eq (slice_index_or fresh i d) number ≡ false) →
+    ((j : ℕ) → j < k → Contains fresh (near_at near j).number → Contains positions j) → (j : ℕ) → j < k + 1 → Contains fresh (near_at near j).number → Contains positions j
+position_passed near fresh positions k number e none h j l r = elim (cases_lt j k) [
+  | inl i ↦ h j i r
+  | inr i ↦ let same : j ≡ k = omega (arith, l, i) in
+      absurd (eqb-false (slice_index_or fresh r.0 (near_at near j).number) number (none r.0 (near_at near j).number (omega arith) r.1) (r.2 ∙ ap (λ (m : ℕ). (near_at near m).number) same ∙ sym e))
+]
+
+pub again_none : (b : BaseLine) (rules : List Rule) (fresh : List ℕ) (p : Progress) → p.best ≡ None → IsAgainSoFar b rules 0 fresh p
+again_none b rules fresh p e = record { found = subst (IsFindIfAny b rules) (sym e) tt; excused = none_excused b rules (MapsOne fresh) p }
+
+pub skipped_again : (b : BaseLine) (rules : List Rule) (n : ℕ) (rule : Rule) (fresh : List ℕ) (p : Progress) → 1 ≤ n → n ≤ length rules → ((d : Rule) → slice_index_or rules (n - 1) d ≡ rule) → (IsLive rule → rule.quality ≤ b.class → ⊥)
+    → IsAgainSoFar b rules (n - 1) fresh p → IsAgainSoFar b rules n fresh p
+skipped_again b rules n rule fresh p h k is never so_far =
+    subst (λ (m : ℕ). IsAgainSoFar b rules m fresh p) (before_number n h) (record { found = so_far.found; excused = skipped_excused b rules (n - 1) rule (MapsOne fresh) p (rule_is rules n rule h k is) never so_far.excused })
+
+pub passed_again : (b : BaseLine) (rules : List Rule) (n : ℕ) (rule : Rule) (fresh positions : List ℕ) (old new : Progress) → 1 ≤ n → n ≤ length rules → ((d : Rule) → slice_index_or rules (n - 1) d ≡ rule) → IsBaseLine b
+    → AreFreshAt b.near fresh positions → IsPassedAgain (record { base = b; number = n; rule = rule }) positions old new → IsAgainSoFar b rules (n - 1) fresh old → IsAgainSoFar b rules n fresh new
+passed_again b rules n rule fresh positions old new h k is line at p so_far =
+    let there = rule_is rules n rule h k is in
+    let back : n ≡ n - 1 + 1 = sym (before_number n h) in
+    let here = subst (λ (m : ℕ). IsPassedAgain (record { base = b; number = m; rule = rule }) positions old new) back p in
+    let tried_here : Tried = record { base = b; number = n - 1 + 1; rule = rule } in
+    subst (λ (m : ℕ). IsAgainSoFar b rules m fresh new) (before_number n h) (record {
+      found = found_passed b rules (n - 1) rule old new there here.advance so_far.found;
+      excused = passed_excused b rules (n - 1) rule (MapsOne fresh) old new line there here.advance
+          (λ c counted fits q. here.excused c counted fits (fresh_assigned b.near fresh positions c at (within tried_here 0 rule.points [] c refl counted (points_of (setting_at tried_here) c fits)) q)) so_far.excused;
+    })
 
 -- a rule that has a state is not live
 pub inert_never : (r : Rule) (i : Inert) → HasState r (Some i) → IsLive r → ⊥
@@ -299,7 +362,7 @@ pub refused_found : (sizes : SizeField) (f : FrontState) (rules : List Rule) (li
 refused_found sizes f rules line class b p is noting none so_far = record {
   excused = λ t of a h.
       let on = on_base sizes f rules line class b t is of in
-      subst (λ (g : FrontState). IsExcused (state_of g) p.notes.items t) is.front (so_far.excused.excused none noting t on (all_rules rules t t.text on.first on.is_rule)
+      subst (λ (g : FrontState). IsExcused (state_of g) p.notes.items t) is.front (so_far.excused.excused none noting t on (all_rules rules t t.text on.first on.is_rule) tt
       (subst (λ (g : FrontState). IsAllowed (state_of g) t) (sym is.front) a) (subst (λ (g : FrontState). FitsFront (state_of g) t) (sym is.front) h));
 }
 
@@ -330,3 +393,34 @@ best_of sizes f rules line class b found a is so_far gives =
       least = least_found sizes f rules line class b t found is so_far find.on find.candidate find.is;
       gives = gives t find.on find.candidate find.is ∙ ap (λ (g : FrontState). application (state_of g) t) is.front;
     }
+
+-- ---- again
+one_found : (sizes : SizeField) (f : FrontState) (rules : List Rule) (line class : ℕ) (b : BaseLine) (found : Found) → IsBaseOf sizes f line class b → IsFind b rules found → HasOne sizes (state_of f) rules line class
+one_found sizes f rules line class b found is find =
+    subst (λ (g : FrontState). HasOne sizes (state_of g) rules line class) is.front (record {
+      attempt = find.attempt;
+      of = subst (λ (g : FrontState). IsOf sizes (state_of g) rules line class find.attempt) (sym is.front) (of_line sizes f rules line class b find.attempt is find.on);
+      candidate = find.candidate;
+    })
+
+pub refused_again : (sizes : SizeField) (f : FrontState) (rules : List Rule) (line class : ℕ) (fresh : List ℕ) (b : BaseLine) (p : Progress) → IsBaseOf sizes f line class b → b.noting ≡ true → p.best ≡ None → IsAgainSoFar b rules (length rules) fresh p
+    → IsRefusedAgain sizes (state_of f) rules line class fresh p.notes.items
+refused_again sizes f rules line class fresh b p is noting none so_far = record {
+  excused = λ t of a h m.
+      let on = on_base sizes f rules line class b t is of in
+      subst (λ (g : FrontState). IsExcused (state_of g) p.notes.items t) is.front (so_far.excused.excused none noting t on (all_rules rules t t.text on.first on.is_rule) m
+      (subst (λ (g : FrontState). IsAllowed (state_of g) t) (sym is.front) a) (subst (λ (g : FrontState). FitsFront (state_of g) t) (sym is.front) h));
+}
+
+pub none_again : (sizes : SizeField) (f : FrontState) (rules : List Rule) (line class : ℕ) (fresh : List ℕ) (notes : List Note) → IsRegion (edges_of f) → IsRefusedAgain sizes (state_of f) rules line class fresh notes → HasNoneAgain sizes (state_of f) rules line class fresh
+none_again sizes f rules line class fresh notes region r = record {
+  none = λ t of m c. excused_none (state_of f) t notes (region_front (edges_of f) region) (r.excused t of (allowed (state_of f) t c) (on_its_front (state_of f) t c) m) c;
+}
+
+pub one_if_some : (sizes : SizeField) (f : FrontState) (rules : List Rule) (line class : ℕ) (b : BaseLine) (o : Option Found) → IsBaseOf sizes f line class b → IsFindIfAny b rules o → is_some o ≡ true → HasOne sizes (state_of f) rules line class
+one_if_some sizes f rules line class b None is find e = absurd (true≢false (sym e))
+one_if_some sizes f rules line class b (Some found) is find e = one_found sizes f rules line class b found is find
+
+pub none_if_not : (o : Option Found) → is_some o ≡ false → o ≡ None
+none_if_not None e = refl
+none_if_not (Some found) e = absurd (true≢false e)

@@ -23,7 +23,7 @@ use Rattle.state_law.proofs.Refused.{refuted}
 use Rattle.rule_match.specs.declared.progress.Note.{Note}
 use Rattle.rule_match.specs.Candidate.{Attempt, IsCandidate, made, zone, mapped_pair, IsFrontPoint, IsFrontPair, IsMappedLine}
 use Rattle.rule_match.specs.Least.{IsOf}
-use Rattle.rule_match.specs.Refused.{places_of, IsAllowed, FitsFront, IsRefusedBy}
+use Rattle.rule_match.specs.Refused.{places_of, IsAllowed, FitsFront, IsExcused, IsRefusedBy}
 
 corner_contained : (p : Point) (ps : List Point) → IsCorner p ps → Contains ps p
 corner_contained p [] c = absurd c
@@ -131,7 +131,11 @@ module _ (st : State) (t : Attempt) where
       line_free line (inl i) = inl (mapped_in line i)
       line_free line (inr i) = inr i
 
--- a refused pair has no candidate
+-- an attempt that is excused is no candidate
+pub excused_none : (st : State) (t : Attempt) (notes : List Note) → refusal.IsFront (front_edges st.points st.front) → IsExcused st notes t → ¬ (IsCandidate st t)
+excused_none st t notes f r c = refuted (λ a. Unit {0}) st.points (front_edges st.points st.front) _ (places_of st t) f r (by_places st t c)
+
+-- so a refused pair has none
 pub refused_none : (sizes : SizeField) (st : State) (rules : List Rule) (line class : ℕ) (notes : List Note) → refusal.IsFront (front_edges st.points st.front) → IsRefusedBy sizes st rules line class notes →
     (t : Attempt) → IsOf sizes st rules line class t → ¬ (IsCandidate st t)
-refused_none sizes st rules line class notes f r t o c = refuted (λ a. Unit {0}) st.points (front_edges st.points st.front) _ (places_of st t) f (r.excused t o (allowed st t c) (on_its_front st t c)) (by_places st t c)
+refused_none sizes st rules line class notes f r t o c = excused_none st t notes f (r.excused t o (allowed st t c) (on_its_front st t c)) c

@@ -51,7 +51,7 @@ longer [] x = refl
 longer (y ∷ pre) x = omega (arith, longer pre x)
 
 -- each at a position
-all_there : (P : ℕ → Type 0) (b : List ℕ) (i : ℕ) → AllByRecursion P b → i < length b → P (slice_index_or b i 0)
+pub all_there : (P : ℕ → Type 0) (b : List ℕ) (i : ℕ) → AllByRecursion P b → i < length b → P (slice_index_or b i 0)
 all_there P [] i a h = absurd (omega (arith, h))
 all_there P (x ∷ b) zero a h = a.0
 all_there P (x ∷ b) (suc i) a h = all_there P b i a.1 (omega (arith, h))

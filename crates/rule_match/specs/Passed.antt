@@ -8,6 +8,7 @@
 -- IsLeastSoFar   what is found is the least of the candidates by the first so many rules
 -- AreExcusedSoFar  where nothing is found, the notes hold the reasons of all attempts by these rules
 -- IsSoFar        both
+-- IsPassedAgain, IsAgainSoFar   the same of the assignments that map a fresh point
 use Rattle.std.specs.Prelude.{◌≡◌, ℕ, ◌-◌, ◌≤◌, ◌<◌, List, length, true, Option, None, Some, slice_get}
 use Rattle.rule_reader.specs.declared.rule.Rule.{Rule}
 use Rattle.rule_maps.specs.Inert.{IsLive}
@@ -18,9 +19,11 @@ use Rattle.rule_match.specs.declared.progress.Progress.{Progress}
 use Rattle.rule_match.specs.Order.{IsNoWorse}
 use Rattle.rule_match.specs.Candidate.{Attempt, IsCandidate}
 use Rattle.rule_match.specs.Least.{rank}
-use Rattle.rule_match.specs.Walk.{IsAdvance}
+use Rattle.std.specs.List.{Any, Contains}
+use Rattle.rule_match.specs.declared.near.NearPoint.{NearPoint}
+use Rattle.rule_match.specs.Walk.{IsAdvance, IsFresh}
 use Rattle.rule_match.specs.Fitting.{fits_so_far}
-use Rattle.rule_match.specs.Trying.{ties}
+use Rattle.rule_match.specs.Trying.{near_at, ties}
 use Rattle.rule_match.specs.Refused.{IsAllowed, FitsFront, IsExcused}
 use Rattle.rule_match.specs.Noted.{HasExcuse}
 use Rattle.rule_match.specs.Base.{BaseLine, Tried, attempt_of, setting_at}
@@ -78,11 +81,39 @@ pub record IsLeastSoFar (b : BaseLine) (rules : List Rule) (k : ℕ) (best : Opt
       → IsNoWorse best (Some (rank (state_at b) t))
 
 -- where nothing is found and notes are made, they hold the reason of each allowed attempt on the base line by the first k
--- rules that fits the front
-pub record AreExcusedSoFar (b : BaseLine) (rules : List Rule) (k : ℕ) (p : Progress) : Type 0 where
+-- rules that fits the front and maps points that are asked for
+pub record AreExcusedSoFar (b : BaseLine) (rules : List Rule) (k : ℕ) (Asked : List ℕ → Type 0) (p : Progress) : Type 0 where
   pub excused : p.best ≡ None → b.noting ≡ true → (t : Attempt) → IsOn b rules t → t.rule ≤ k
-      → IsAllowed (state_at b) t → FitsFront (state_at b) t → IsExcused (state_at b) p.notes.items t
+      → Asked t.points → IsAllowed (state_at b) t → FitsFront (state_at b) t
+      → IsExcused (state_at b) p.notes.items t
+
+-- all attempts are asked for
+abbrev pub AllAsked : List ℕ → Type 0
+AllAsked points = Unit {0}
 
 pub record IsSoFar (b : BaseLine) (rules : List Rule) (k : ℕ) (p : Progress) : Type 0 where
   pub least : IsLeastSoFar b rules k p.best
-  pub excused : AreExcusedSoFar b rules k p
+  pub excused : AreExcusedSoFar b rules k AllAsked p
+
+-- ---- of the assignments that map a fresh point
+-- one of the points is fresh
+abbrev pub MapsOne : List ℕ → List ℕ → Type 0
+MapsOne fresh points = Any (λ p. Contains fresh p) points
+
+-- of the rule's assignments on the base line those with a fresh number are passed
+pub record IsPassedAgain (t : Tried) (fresh : List ℕ) (old new : Progress) : Type 0 where
+  pub advance : IsAdvance (Holds t) (rank_of t) old new
+  pub excused : (b : List ℕ) → length b ≡ length t.rule.points
+      → fits_so_far (ties (setting_at t)) b ≡ true → IsFresh fresh b → new.best ≡ None
+      → HasExcuse t new.notes.items b
+
+-- what is found is of a candidate on the base line; where nothing is, the attempts by the first k rules that map a fresh
+-- point are excused
+pub record IsAgainSoFar (b : BaseLine) (rules : List Rule) (k : ℕ) (fresh : List ℕ) (p : Progress) : Type 0 where
+  pub found : IsFindIfAny b rules p.best
+  pub excused : AreExcusedSoFar b rules k (MapsOne fresh) p
+
+-- each near point whose number is fresh is at one of these positions
+abbrev pub AreFreshAt : List NearPoint → List ℕ → List ℕ → Type 0
+AreFreshAt near fresh positions = (k : ℕ) → k < length near →
+    Contains fresh (near_at near k).number → Contains positions k

@@ -7,6 +7,7 @@
 -- IsExcused        the attempt is no candidate, for a reason that the notes hold
 -- IsRefusedBy      each allowed attempt that fits the front is excused
 -- IsRefusedAgain   the same of those that map a fresh point
+-- HasOne, HasNoneAgain   the line has a candidate; it has none that maps a fresh point
 use Rattle.std.specs.Prelude.{ℕ, ◌≡◌, ◌≤◌, nat_eq, List, length, map, pos, Bool, ◌&&◌, filter}
 use lib.Signed.{◌<ℤ◌}
 use Rattle.std.specs.List.{AllByRecursion, Any, Contains, IsDistinct, list_any}
@@ -22,7 +23,7 @@ use Rattle.rule_maps.specs.Frame.{IsInRange}
 use Rattle.state_law.specs.State.{State, point_at, pair_edge, front_edges}
 use Rattle.state_law.specs.Refusal as refusal
 use Rattle.rule_match.specs.declared.progress.Note.{Note}
-use Rattle.rule_match.specs.Candidate.{Attempt, mapped, locals, made, zone, elements, nth, mapped_pair, AreTolerated, IsFrontPair, IsFrontPoint, IsLineTolerated}
+use Rattle.rule_match.specs.Candidate.{Attempt, IsCandidate, mapped, locals, made, zone, elements, nth, mapped_pair, AreTolerated, IsFrontPair, IsFrontPoint, IsLineTolerated}
 use Rattle.rule_match.specs.Least.{IsOf}
 
 -- the attempt by its places
@@ -85,3 +86,14 @@ pub record IsRefusedBy (sizes : SizeField) (st : State) (rules : List Rule) (lin
 pub record IsRefusedAgain (sizes : SizeField) (st : State) (rules : List Rule) (line class : ℕ) (fresh : List ℕ) (notes : List Note) : Type 0 where
   pub excused : (t : Attempt) → IsOf sizes st rules line class t → IsAllowed st t → FitsFront st t
       → Any (λ p. Contains fresh p) t.points → IsExcused st notes t
+
+-- the line has a candidate at the class
+pub record HasOne (sizes : SizeField) (st : State) (rules : List Rule) (line class : ℕ) : Type 0 where
+  pub attempt : Attempt
+  pub of : IsOf sizes st rules line class attempt
+  pub candidate : IsCandidate st attempt
+
+-- none of its attempts at the class that map a fresh point is a candidate
+pub record HasNoneAgain (sizes : SizeField) (st : State) (rules : List Rule) (line class : ℕ) (fresh : List ℕ) : Type 0 where
+  pub none : (t : Attempt) → IsOf sizes st rules line class t
+      → Any (λ p. Contains fresh p) t.points → IsCandidate st t → ⊥

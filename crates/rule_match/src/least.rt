@@ -37,7 +37,7 @@ use std::sync::ledger::Ledger;
 use steps::Steps;
 
 /// Whether the rule may apply at the class: it is live, and its quality is at most the class.
-fn may_apply(rule: &Compiled<'_>, class: u32) -> bool
+pub(crate) fn may_apply(rule: &Compiled<'_>, class: u32) -> bool
     ensures live { result ≡ true → IsLive rule.now }
     ensures quality { result ≡ true → rule.now.quality ≤ class }
     ensures never { result ≡ false → IsLive rule.now → rule.now.quality ≤ class → ⊥ }

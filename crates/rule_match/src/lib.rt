@@ -31,6 +31,7 @@ mod near;
 mod noting;
 mod out_of_reach;
 mod progress;
+mod refused;
 mod rule_search;
 mod squares;
 #[cfg(test)]
@@ -48,6 +49,7 @@ pub use least::{best, best_noted, some_may_apply};
 pub use near::NearPoint;
 pub use out_of_reach::{greatest_reach_at, reach_box};
 pub use progress::{Note, Progress};
+pub use refused::again;
 pub use squares::{MOST_SIDES, element_badness};
 pub use std::alloc::AllocError as OutOfMemory;
 pub use trying::Trying;

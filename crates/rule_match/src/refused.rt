@@ -1,0 +1,119 @@
+//! Whether a line that was refused at a class has a candidate that maps one of given points.
+//!
+//! 1. After an application a refused line can gain candidates only by points that came near, or where a
+//!    front line that was noted left: such a candidate maps a new point, or one that was noted beside
+//!    the line.
+//! 2. So only assignments that map one of these points are passed, and the notes grow by their reasons.
+
+ghost use Rattle.std.specs.Prelude.{◌≡◌, ◌≤◌, ◌-◌, ℕ, List, length, true, false, IsSome, None, IfOk, OnOk};
+ghost use Rattle.front_chain.specs.Front.{line_at, state_of};
+ghost use Rattle.rule_match.specs.Walk.{BeginsWith};
+ghost use Rattle.rule_match.specs.Refused.{HasNoneAgain, HasOne, IsRefusedAgain};
+ghost use Rattle.rule_match.specs.Passed.{AreFreshAt, IsAgainSoFar};
+
+use super::base::Base;
+use super::least::may_apply;
+use super::progress::{Note, Progress};
+use super::rule_search::try_rule_again;
+use super::trying::point_near;
+use front_chain::Front;
+use rule_maps::RuleSet;
+use size_field::Sizes;
+use std::alloc::{AllocError, Global};
+use std::mem;
+
+/// The positions of the near points that are fresh.
+fn fresh_positions(alloc: Global, base: &Base<'_>, fresh: &[u64]) -> Result<Vec<usize>, AllocError>
+    ensures { IfOk result (λ v. AreFreshAt base.now.near fresh.now v.items) }
+{
+    let near = base.near();
+    let mut positions = Vec::new(alloc);
+    for k in 0..near.len() {
+        let number = point_near(near, k).number;
+        if fresh.contains(&number) {
+            positions.push(k)?;
+        }
+    }
+    Ok(positions)
+}
+
+/// Passes the rule with the number, where it may apply at the class.
+fn pass_rule_again(
+    alloc: Global,
+    base: &Base<'_>,
+    rules: &RuleSet<'_>,
+    number: usize,
+    positions: &[usize],
+    progress: &mut Progress,
+) -> Result<(), AllocError>
+    requires first { 1 ≤ number }
+    requires last { number ≤ length rules.now }
+    ensures so_far { OnOk result ((fresh : List ℕ) → AreFreshAt base.now.near fresh positions.now →
+        IsAgainSoFar base.now rules.now (number - 1) fresh progress.old →
+        IsAgainSoFar base.now rules.now number fresh progress.new) }
+    ensures kept { OnOk result (BeginsWith progress.new.notes.items progress.old.notes.items) }
+{
+    let _near = base.near();
+    let rule = rules.get(number);
+    if may_apply(rule, base.class()) {
+        try_rule_again(alloc, base, rule, number, positions, progress)?;
+    }
+    Ok(())
+}
+
+/// Passes all rules.
+fn pass_rules_again(
+    alloc: Global,
+    base: &Base<'_>,
+    rules: &RuleSet<'_>,
+    fresh: &[u64],
+    progress: &mut Progress,
+) -> Result<(), AllocError>
+    requires { progress.old.best ≡ None }
+    ensures so_far { OnOk result
+        (IsAgainSoFar base.now rules.now (length rules.now) fresh.now progress.new) }
+    ensures kept { OnOk result (BeginsWith progress.new.notes.items progress.old.notes.items) }
+{
+    let positions = fresh_positions(alloc, base, fresh)?;
+    for position in 0..rules.count() {
+        pass_rule_again(alloc, base, rules, position + 1, &positions, progress)?;
+    }
+    Ok(())
+}
+
+/// Whether the line has a candidate at the class, of those that map one of the fresh points. Where it
+/// has none, the notes hold the reasons of these attempts.
+///
+/// Errors: want of memory.
+pub fn again(
+    alloc: Global,
+    front: &Front,
+    sizes: &Sizes,
+    rules: &RuleSet<'_>,
+    line: u64,
+    class: u32,
+    fresh: &[u64],
+    notes: &mut Vec<Note>,
+) -> Result<bool, AllocError>
+    requires on_front { IsSome (line_at front.now.lines line) }
+    requires class_least { 1 ≤ class }
+    requires class_greatest { class ≤ 16 }
+    ensures one { IfOk result (λ yes. yes ≡ true →
+        HasOne sizes.now (state_of front.now) rules.now line class) }
+    ensures none { IfOk result (λ yes. yes ≡ false →
+        HasNoneAgain sizes.now (state_of front.now) rules.now line class fresh.now) }
+    ensures noted { IfOk result (λ yes. yes ≡ false →
+        IsRefusedAgain sizes.now (state_of front.now) rules.now line class fresh.now
+        notes.new.items) }
+    ensures kept { OnOk result (BeginsWith notes.new.items notes.old.items) }
+{
+    let _points = front.points();
+    let base = Base::new(alloc, front, sizes, line, class, true)?;
+    let mut progress = Progress {
+        best: None,
+        notes: mem::replace(notes, Vec::new(alloc)),
+    };
+    pass_rules_again(alloc, &base, rules, fresh, &mut progress)?;
+    *notes = progress.notes;
+    Ok(progress.best.is_some())
+}
