@@ -39,8 +39,6 @@ pub mod WithinReach
 pub mod NearBack
 -- FarAway: elements in a box leave a front alike in each box apart from it.
 pub mod FarAway
--- FarLines: front lines whose reach lies apart from an area.
-pub mod FarLines
 -- ReachBoxes: the box of a line's reach, cut off at the grid.
 pub mod ReachBoxes
 -- Tolerated: how far tolerated points are from their places. CoversAt: numbers that cover rules up to a class.

@@ -6,7 +6,6 @@
 -- IsCoveredBy          a rule is one that a reader gives, and n covers it where it is live
 -- IsCoveredAt          a rule is one that a reader gives, and n holds what its candidates up to a class use
 -- IsStayingLine        a front line that the later state has too
--- IsReachAtMost        how far the reach of a line goes beyond its start
 -- IsReachBox           the box of a line's reach, cut off at the grid
 -- IsFarLine            a front line whose reach lies apart from a box
 use lib.IntN.{ℤ, pos, neg_ℤ, ◌+ℤ◌, ◌-ℤ◌, ◌*ℤ◌}
@@ -87,15 +86,6 @@ pub record IsStayingLine (sizes : SizeField) (st later : State) (line : ℕ × �
   pub frame : IsFrame f
   pub framed : IsFrameOf (point_at st.points line.1) (point_at st.points line.2)
       (size_at sizes f.middle) f
-
--- the line has a frame, and its reach goes at most so many grid steps beyond its start
-pub record IsReachAtMost (sizes : SizeField) (points : List Point) (n : ℕ) (steps : ℤ) (from to : ℕ) : Type 0 where
-  pub frame : LocalFrame
-  pub is_frame : IsFrame frame
-  pub framed : IsFrameOf (point_at points from) (point_at points to)
-      (size_at sizes frame.middle) frame
-  pub positive : pos 0 ≤ℤ widening n frame
-  pub within : widening n frame ≤ℤ steps
 
 -- the box around the grid
 abbrev pub whole_grid : Bounds

@@ -47,9 +47,7 @@ pub use found::Found;
 pub use fresh::search_fresh;
 pub use least::{best, best_noted, some_may_apply};
 pub use near::NearPoint;
-pub use out_of_reach::{
-    Distance, greatest_reach, greatest_reach_at, is_out_of_reach, reach_beyond, reach_box,
-};
+pub use out_of_reach::{greatest_reach_at, reach_box};
 pub use progress::{Note, Progress};
 pub use refused::again;
 pub use squares::{MOST_SIDES, element_badness};

@@ -1,12 +1,12 @@
-//! Whether what rules use on a front line lies apart from a part of the plane.
+//! How far rules reach up to a class, and the box of all that they use on a front line.
 
-ghost use Rattle.std.specs.Prelude.{ℕ, ◌≡◌, ◌⊎◌, ◌≤◌, Some, is_some, true, ◌↔◌, pos, ◌+ℤ◌, ◌-ℤ◌, ◌<ℤ◌, ◌≤ℤ◌, IfOk, IfSome, IsTrue};
+ghost use Rattle.std.specs.Prelude.{ℕ, ◌≡◌, ◌≤◌, Some, is_some, true, ◌+ℤ◌, ◌-ℤ◌, IfOk};
 ghost use Rattle.std.specs.Int.{int_max, int_min};
 ghost use Rattle.std.specs.List.{AllByRecursion};
 ghost use Rattle.grid_geom.specs.Bounds.{IsOnGrid, IsWithin};
-ghost use Rattle.front_chain.specs.Front.{line_at, state_of};
+ghost use Rattle.front_chain.specs.Front.{line_at};
 ghost use Rattle.rule_maps.specs.Inert.{IsLive};
-ghost use Rattle.rule_match.specs.Near.{widening, IsCoveredAt, IsCoveredBy, IsFarLine, IsReachAtMost, IsReachBox, whole_grid};
+ghost use Rattle.rule_match.specs.Near.{widening, IsCoveredAt, IsCoveredBy, IsReachBox, whole_grid};
 
 use super::OutOfMemory;
 use super::base::frame_of;
@@ -16,19 +16,6 @@ use grid_geom::{Bounds, GRID, Point};
 use rule_maps::{Compiled, Frame, RuleSet};
 use size_field::Sizes;
 use std::alloc::Global;
-
-/// The greatest reach of the rules: each of them is covered by it.
-pub fn greatest_reach(rules: &RuleSet<'_>) -> u64
-    ensures { AllByRecursion (IsCoveredBy result) rules.now }
-{
-    let mut greatest = 13;
-    for k in 0..rules.count() {
-        let compiled = rules.get(k + 1);
-        let _rule = compiled.rule();
-        greatest = compiled.reach().max(greatest);
-    }
-    greatest
-}
 
 /// The least number that covers a live rule with the leeways of the class.
 fn reach_of_live(alloc: Global, compiled: &Compiled<'_>, class: u32) -> Result<u64, OutOfMemory>
@@ -69,109 +56,6 @@ pub fn greatest_reach_at(alloc: Global, rules: &RuleSet<'_>, class: u32) -> Resu
         greatest = reach_at(alloc, rules.get(k + 1), class)?.max(greatest);
     }
     Ok(greatest)
-}
-
-/// How far a line's reach goes beyond its start, in grid steps.
-#[derive(Clone, Copy)]
-struct Wide {
-    steps: i128,
-}
-
-/// How far the reach of a front line goes beyond its start at most, in grid steps.
-#[derive(Clone, Copy, Debug, PartialEq, Eq)]
-pub struct Distance {
-    pub steps: i64,
-}
-
-/// No greater distance is told: it is far beyond all of the grid.
-const FARTHEST: i128 = 1 << 60;
-
-/// How far the reach of a line with this frame goes beyond its start, if a number holds it.
-fn widening_of(frame: &Frame, reach: u64) -> Option<Wide>
-    ensures value { IfSome result (λ wide. wide.steps ≡ widening reach frame.now) }
-    ensures positive { IfSome result (λ wide. pos 0 ≤ℤ wide.steps) }
-{
-    let twice = 2 * reach as i128;
-    let high = frame.h();
-    match twice.checked_mul(high) {
-        None => None,
-        Some(most) => match most.checked_add(1) {
-            None => None,
-            Some(steps) => {
-                if steps >= 0 {
-                    Some(Wide { steps })
-                } else {
-                    None
-                }
-            }
-        },
-    }
-}
-
-/// The distance, unless it is greater than all that are told.
-fn distance_of(wide: &Wide) -> Option<Distance>
-    ensures { IfSome result (λ far. far.steps ≡ wide.now.steps) }
-{
-    if wide.steps >= 0 && wide.steps <= FARTHEST {
-        Some(Distance {
-            steps: wide.steps as i64,
-        })
-    } else {
-        None
-    }
-}
-
-/// Whether all between two numbers lies beyond all that is within a distance of a place.
-fn is_beyond(at: &i64, wide: &Wide, least: &i64, greatest: &i64) -> bool
-    ensures { IsTrue result → (greatest.now <ℤ (at.now -ℤ wide.now.steps)) ⊎ ((at.now +ℤ wide.now.steps) <ℤ least.now) }
-{
-    let place = *at as i128;
-    match place.checked_sub(wide.steps) {
-        None => false,
-        Some(low) => match place.checked_add(wide.steps) {
-            None => false,
-            Some(high) => (*greatest as i128) < low || high < (*least as i128),
-        },
-    }
-}
-
-/// Whether the reach of the front line with this number lies apart from the area. `reach` covers the rules.
-pub fn is_out_of_reach(front: &Front, sizes: &Sizes, line: u64, reach: u64, area: &Bounds) -> bool
-    ensures { IsTrue result → IsFarLine sizes.now (state_of front.now) reach area.now.lo area.now.hi line }
-{
-    match front.line(line) {
-        None => false,
-        Some((from, to)) => {
-            let frame = frame_of(front, sizes, from, to);
-            let at = frame.p1();
-            match widening_of(&frame, reach) {
-                None => false,
-                Some(wide) => {
-                    is_beyond(&at.x, &wide, &area.lo.x, &area.hi.x)
-                        || is_beyond(&at.y, &wide, &area.lo.y, &area.hi.y)
-                }
-            }
-        }
-    }
-}
-
-/// How far the reach of the front line with this number goes beyond its start, unless that is greater than
-/// all distances that are told. `reach` covers the rules.
-pub fn reach_beyond(front: &Front, sizes: &Sizes, line: u64, reach: u64) -> Option<Distance>
-    ensures { IfSome result (λ far. (ends : ℕ × ℕ) → line_at front.now.lines line ≡ Some ends →
-        IsReachAtMost sizes.now front.now.points reach far.steps ends.0 ends.1) }
-{
-    match front.line(line) {
-        None => None,
-        Some((from, to)) => {
-            let frame = frame_of(front, sizes, from, to);
-            let _start = frame.p1();
-            match widening_of(&frame, reach) {
-                None => None,
-                Some(wide) => distance_of(&wide),
-            }
-        }
-    }
 }
 
 /// The grid's width, in grid steps: no place on the grid is farther from another.
