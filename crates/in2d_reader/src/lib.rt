@@ -21,6 +21,3 @@ pub use printing::print_in2d;
 pub use reading::read_in2d;
 pub use refusal::In2dRefusal;
 pub use word_scan::{Dec, Name};
-
-#[cfg(test)]
-mod tests;

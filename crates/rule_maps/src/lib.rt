@@ -21,8 +21,3 @@ pub use inert::Inert;
 pub use reach::{Leeway, leeway_in_range};
 pub use rule_set::RuleSet;
 pub use std::alloc::AllocError as OutOfMemory;
-
-#[cfg(test)]
-mod tests;
-#[cfg(test)]
-mod texts;

@@ -25,8 +25,3 @@ pub use printing::print_rules;
 pub use rule::{MapLine, MapPoint, Place, Rule, Term, Triple};
 pub use std::alloc::AllocError as OutOfMemory;
 pub use text::read_rules;
-
-#[cfg(test)]
-mod tests;
-#[cfg(test)]
-mod texts;

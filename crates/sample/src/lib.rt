@@ -12,8 +12,3 @@ mod twelve;
 
 pub use squares::{geometry, part_of_side, rows};
 pub use twelve::twelve_rules;
-
-#[cfg(test)]
-mod tests;
-#[cfg(test)]
-mod texts;

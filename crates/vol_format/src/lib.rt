@@ -20,8 +20,6 @@ mod read;
 mod reader;
 mod refusal;
 mod rows;
-#[cfg(test)]
-mod tests;
 mod write;
 
 use grid_geom::{Element, Points};

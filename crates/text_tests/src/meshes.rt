@@ -1,10 +1,12 @@
 ghost use Rattle.std.specs.Prelude.{◌≡◌, IfOk, pos};
 ghost use Rattle.vol_format.specs.Vol.{IsShift};
 
-use super::*;
-use grid_geom::Point;
+use grid_geom::{Element, Point, Points};
 use std::alloc::{AllocError, Global};
 use std::test::Fail;
+use vol_format::{
+    EdgeRow, EdgeRows, Mesh, MeshElement, MeshElements, VolRefusal, read_vol, write_vol,
+};
 
 fn points(alloc: Global, places: &[(i64, i64)]) -> Result<Points, AllocError> {
     let mut points = Vec::new(alloc);

@@ -2,8 +2,8 @@
 
 ghost use Rattle.std.specs.Prelude.{◌≤◌, length};
 
-use super::*;
-use crate::texts::{HALF, TWO};
+use crate::rule_texts::{HALF, TWO};
+use rule_reader::{RuleRefusal, Rules, Triple, print_rules, read_rules};
 use std::alloc::Global;
 use std::test::Fail;
 

@@ -5,9 +5,9 @@ ghost use Rattle.std.specs.List.{All};
 ghost use Rattle.rule_maps.specs.Frame.{IsInRange};
 ghost use Rattle.rule_reader.specs.Normal.{CanPrint};
 
-use super::*;
-use crate::texts::{FREE_AND_FAR, INERT, PAST};
+use crate::place_texts::{FREE_AND_FAR, INERT, PAST};
 use grid_geom::Point;
+use rule_maps::{Compiled, Frame, Inert, RuleSet};
 use rule_reader::{Rules, read_rules};
 use std::alloc::Global;
 use std::test::Fail;

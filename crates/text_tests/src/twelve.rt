@@ -1,8 +1,8 @@
 //! What is held, against its text.
 
-use super::{geometry, twelve_rules};
-use crate::texts::TWELVE;
+use crate::twelve_text::TWELVE;
 use rule_reader::{print_rules, read_rules};
+use sample::{geometry, twelve_rules};
 use std::test::Fail;
 
 #[test]

@@ -1,4 +1,5 @@
-use super::*;
+// What is read of geometries' texts, printed and refused.
+use in2d_reader::{Dec, In2dRefusal, print_in2d, read_in2d};
 use std::alloc::{AllocError, Global};
 use std::fmt::Write;
 use std::test::*;
