@@ -1,12 +1,12 @@
 -- Rows of a file, one after another: the first with a number, the first that does not fit.
-use Rattle.std.proofs.Common.{◌≡◌, ℕ, suc, ◌+◌, ◌<◌, ◌==◌, Bool, ◌∷◌, Option, Some, None, IfSome, IsSome, All, List, length, drop, slice_index_or, cond, ℤ, pos, arith, sym, ◌∙◌, ap, subst, inl, inr, true, false, ◌||◌, [], refl}
+use Rattle.std.proofs.Common.{◌≡◌, ℕ, suc, ◌+◌, ◌<◌, ◌==◌, Bool, ◌∷◌, Option, Some, None, IfSome, IsSome, All, List, length, drop, slice_index_or, cond, ℤ, pos, arith, sym, ◌∙◌, ap, subst, inl, inr}
 use lib.IntN.{◌-ℤ◌}
 use lib.Signed.{◌<ℤ◌, ◌≤ℤ◌}
 use Rattle.std.proofs.Math.Seq.{drop-cons}
 use Rattle.std.proofs.lemmas.Int.{ints}
 use Rattle.std.specs.Ordering.{nat_cmp}
 use Rattle.std.specs.BTreeMap as tree
-use Rattle.std.specs.List.{position_from, list_any}
+use Rattle.std.specs.List.{position_from}
 use Rattle.in2d_reader.specs.declared.geometry.PointRow.{PointRow}
 use Rattle.grid_geom.proofs.Signs.{ordered}
 use Rattle.geom_check.specs.Shift.{FitsRow}
@@ -49,12 +49,3 @@ finer_fails rows down shift None e finer f s d h j all = cc
 -- a look-up of a known number finds it
 pub known : (r s t u : Option ℕ) → r ≡ s → s ≡ t → t ≡ u → IsSome u → IsSome r
 known r s t u e f g h = subst (λ (o : Option ℕ). IsSome o) (sym (e ∙ f ∙ g)) h
-
--- ---- a row that passes a test is found
-found_later : (b later : Bool) (i : ℕ) (rest : Option ℕ) → (later ≡ true → IsSome rest) → (b || later) ≡ true → IsSome (cond b (Some i) rest)
-found_later true later i rest h e = refl
-found_later false later i rest h e = h e
-
-pub row_is_known : {A : Type 0} (test : A → Bool) (items : List A) (i : ℕ) → list_any test items ≡ true → IsSome (position_from test i items)
-row_is_known test [] i e = cc
-row_is_known test (x ∷ xs) i e = found_later (test x) (list_any test xs) i (position_from test (i + 1) xs) (row_is_known test xs (i + 1)) e

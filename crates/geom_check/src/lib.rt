@@ -39,8 +39,3 @@ pub use domains::domain_numbers;
 pub use geometry::Geometry;
 pub use kinds::{Domain, Domains, Segment, Segments, Source, Sources};
 pub use refusal::GeomRefusal;
-
-#[cfg(test)]
-mod readable;
-#[cfg(test)]
-mod tests;

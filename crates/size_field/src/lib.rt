@@ -28,6 +28,3 @@ pub const GRADING_UNIT: u64 = 1_000;
 
 /// The greatest grading.
 pub const MOST_GRADING: u32 = 10_000;
-
-#[cfg(test)]
-mod tests;

@@ -4,9 +4,17 @@ ghost use Rattle.std.specs.List.{list_any};
 ghost use Rattle.geom_check.specs.Boundary.{IsBoundaryNumber};
 ghost use Rattle.geom_check.specs.Placed.{IsReadable, IsReadableNumber, IsReadableIfAny, IsReadablePoint, IsReadableSegment, IsReadableMaterial, row_in};
 
-use crate::limits::{MOST_BOUNDARY_NUMBER, MOST_DOMAINS, MOST_ROWS};
 use in2d_reader::{MaterialRow, PointRow, RawGeometry, SegmentRow};
 use word_scan::Dec;
+
+/// The most points, and the most segments, of a geometry.
+const MOST_ROWS: usize = 4_096;
+
+/// The greatest number of a domain.
+const MOST_DOMAINS: u32 = 64;
+
+/// The greatest boundary number.
+const MOST_BOUNDARY_NUMBER: u32 = 999_999;
 
 fn is_readable_number(v: &Dec) -> bool
     ensures { IsTrue result → IsReadableNumber v.now }

@@ -1,136 +1,10 @@
+// Geometries that are accepted, with what is kept of them, and one refusal of each kind.
 use crate::readable::is_readable;
-use crate::scale::Scale;
-use crate::{Domain, GeomRefusal, Geometry, Segment, Source, check};
+use geom_check::{Domain, GeomRefusal, Geometry, Segment, Source, check};
 use grid_geom::{Point, RatPoint};
 use in2d_reader::read_in2d;
 use std::alloc::Global;
 use std::test::*;
-use word_scan::Dec;
-
-#[test]
-fn coordinates_round_half_away_from_zero(rt: HostRuntime) {
-    let whole = Scale { shift: 0 };
-    assert!(rt;
-        whole.coordinate(&Dec {
-            digits: 5,
-            scale: -1
-        }) == Some(64)
-    );
-    assert!(rt;
-        whole.coordinate(&Dec {
-            digits: -5,
-            scale: -1
-        }) == Some(-64)
-    );
-    assert!(rt;
-        whole.coordinate(&Dec {
-            digits: 25,
-            scale: -1
-        }) == Some(192)
-    );
-    assert!(rt;
-        whole.coordinate(&Dec {
-            digits: -249,
-            scale: -2
-        }) == Some(-128)
-    );
-    assert!(rt;
-        whole.coordinate(&Dec {
-            digits: 163_844_999,
-            scale: -4
-        }) == Some(1_048_576)
-    );
-    assert!(rt;
-        whole.coordinate(&Dec {
-            digits: -163_845,
-            scale: -1
-        }) == None
-    );
-}
-
-#[test]
-fn coordinates_of_extreme_numbers(rt: HostRuntime) {
-    let fine = Scale { shift: 8 };
-    assert!(rt;
-        fine.coordinate(&Dec {
-            digits: 0,
-            scale: 99
-        }) == Some(0)
-    );
-    assert!(rt;
-        fine.coordinate(&Dec {
-            digits: 1,
-            scale: -99
-        }) == Some(0)
-    );
-    assert!(rt;
-        fine.coordinate(&Dec {
-            digits: 1,
-            scale: 99
-        }) == None
-    );
-    assert!(rt;
-        fine.coordinate(&Dec {
-            digits: 16_384,
-            scale: -8
-        }) == Some(1_048_576)
-    );
-    let coarse = Scale { shift: -6 };
-    assert!(rt;
-        coarse.coordinate(&Dec {
-            digits: 16_384_499_999,
-            scale: 0
-        }) == Some(1_048_576)
-    );
-    assert!(rt;
-        coarse.coordinate(&Dec {
-            digits: 16_384_500_000,
-            scale: 0
-        }) == None
-    );
-}
-
-#[test]
-fn sizes_round_down(rt: HostRuntime) {
-    let scale = Scale { shift: 4 };
-    assert!(rt;
-        scale.size(Some(Dec {
-            digits: 1,
-            scale: 0
-        })) == Some(640_000)
-    );
-    assert!(rt;
-        scale.size(Some(Dec {
-            digits: 199,
-            scale: -7
-        })) == Some(12)
-    );
-    assert!(rt;
-        scale.size(Some(Dec {
-            digits: 1,
-            scale: -99
-        })) == Some(1)
-    );
-    assert!(rt;
-        scale.size(Some(Dec {
-            digits: 1,
-            scale: 99
-        })) == Some(2_097_152)
-    );
-    assert!(rt;
-        scale.size(Some(Dec {
-            digits: 0,
-            scale: 0
-        })) == None
-    );
-    assert!(rt;
-        scale.size(Some(Dec {
-            digits: -1,
-            scale: 0
-        })) == None
-    );
-    assert!(rt; scale.size(None) == None);
-}
 
 // What the check says of the geometry that a text writes.
 fn checked(alloc: Global, text: &[u8]) -> Result<Result<Geometry, GeomRefusal>, Fail> {
@@ -141,7 +15,8 @@ fn checked(alloc: Global, text: &[u8]) -> Result<Result<Geometry, GeomRefusal>, 
     Ok(check(alloc, &raw))
 }
 
-fn accepted(alloc: Global, text: &[u8]) -> Result<Geometry, Fail> {
+/// The geometry that a text writes.
+pub fn accepted(alloc: Global, text: &[u8]) -> Result<Geometry, Fail> {
     Ok(
         checked(alloc, text)?
             .ok()
@@ -151,6 +26,63 @@ fn accepted(alloc: Global, text: &[u8]) -> Result<Geometry, Fail> {
 
 fn refusal(alloc: Global, text: &[u8]) -> Result<Option<GeomRefusal>, Fail> {
     Ok(checked(alloc, text)?.err())
+}
+
+#[test]
+fn coordinates_round_half_away_from_zero(rt: HostRuntime) -> Result<(), Fail> {
+    let text = b"splinecurves2dv2 1 points 1 16384.4999 0.5 2 -2.49 2.5 3 -.5 -249e-2
+          segments 1 0 2 1 2 1 0 2 2 3 1 0 2 3 1";
+    let geometry = accepted(rt.alloc(), text)?;
+    assert_eq!(rt; geometry.shift(), 0);
+    let places = [
+        Point {
+            x: 1_048_576,
+            y: 64,
+        },
+        Point { x: -128, y: 192 },
+        Point { x: -64, y: -128 },
+    ];
+    assert!(rt; geometry.points() == places.as_slice());
+    // the next coordinate doesn't fit there, and at a tenth the other two points are one
+    let coarser = b"splinecurves2dv2 1 points 1 16384.5 0.5 2 -2.49 2.5 3 -.5 -249e-2
+          segments 1 0 2 1 2 1 0 2 2 3 1 0 2 3 1";
+    assert!(rt; refusal(rt.alloc(), coarser)? == Some(GeomRefusal::SamePlace { i: 2, j: 3 }));
+    Ok(())
+}
+
+#[test]
+fn coordinates_of_extreme_numbers(rt: HostRuntime) -> Result<(), Fail> {
+    let fine = b"splinecurves2dv2 1 points 1 0e99 1e-99 2 16384e-8 0 3 -1e-99 16384e-8
+          segments 1 0 2 1 2 1 0 2 2 3 1 0 2 3 1";
+    let geometry = accepted(rt.alloc(), fine)?;
+    assert_eq!(rt; geometry.shift(), 8);
+    let places = [
+        Point { x: 0, y: 0 },
+        Point { x: 1_048_576, y: 0 },
+        Point { x: 0, y: 1_048_576 },
+    ];
+    assert!(rt; geometry.points() == places.as_slice());
+    let coarse = b"splinecurves2dv2 1 points 1 0 0 2 16384499999 0 3 0 1e10
+          segments 1 0 2 1 2 1 0 2 2 3 1 0 2 3 1";
+    assert_eq!(rt; accepted(rt.alloc(), coarse)?.shift(), -6);
+    let past = b"splinecurves2dv2 1 points 1 0 0 2 16384500000 0 3 0 1e99
+          segments 1 0 2 1 2 1 0 2 2 3 1 0 2 3 1";
+    assert!(rt; refusal(rt.alloc(), past)? == Some(GeomRefusal::TooLarge { point: 2 }));
+    Ok(())
+}
+
+#[test]
+fn sizes_round_down(rt: HostRuntime) -> Result<(), Fail> {
+    let text = b"splinecurves2dv2 1 points 1 0 0 -maxh=1 2 1 0 -maxh=199e-7 3 1 1 -maxh=1e-99
+          4 .5 1 -maxh=1e99 5 0 1 -maxh=0 6 0 .5 -maxh=-1
+          segments 1 0 2 1 2 1 0 2 2 3 1 0 2 3 4 1 0 2 4 5 1 0 2 5 6 1 0 2 6 1";
+    let geometry = accepted(rt.alloc(), text)?;
+    let [whole, small, least, greatest] = geometry.flagged() else {
+        return Err("four points have a size".into());
+    };
+    assert_eq!(rt; (whole.h, small.h), (640_000, 12));
+    assert_eq!(rt; (least.h, greatest.h), (1, 2_097_152));
+    Ok(())
 }
 
 #[test]

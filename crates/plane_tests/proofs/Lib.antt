@@ -1,0 +1,2 @@
+-- What makes sure, in a test, that a geometry can be checked.
+pub mod Rows
