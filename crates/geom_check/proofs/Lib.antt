@@ -36,6 +36,7 @@ pub mod Borders
 -- The walk up through the heights: risers that agree, how often each is in the order, and its steps.
 pub mod Agreement
 pub mod EventLists
+pub mod Reached
 pub mod WalkSteps
 pub mod Tallies
 pub mod Chains

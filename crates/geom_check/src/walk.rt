@@ -12,6 +12,7 @@ ghost use Rattle.std.specs.List.Sorted.{IsStrictlyIncreasing};
 ghost use Rattle.grid_geom.specs.Bounds.{IsOnGrid};
 ghost use Rattle.geom_check.specs.RiserOrder.{IsRiserOnGrid, IsStripOnGrid, IsPassing, IsWest, IsFree, IsRising, HasLevels, IsSoundAll, far, height_of};
 ghost use Rattle.geom_check.specs.Risers.{winding_of};
+ghost use Rattle.geom_check.specs.Doubt.{event_at, IsNextTo, IsNextAt, IsChainIn, IsBefore, IsPlaceFor, IsTakenAt, IsReached, IsAmiss, IsStuck, IsDoubtful};
 ghost use Rattle.geom_check.specs.Walk.{DoAgree, DoAgreeAt, IsEndOf, AreEndsOf, AreRising, AreIn, AreNeighbours, BeginsOutside, IsChain, IsPutIn, IsTakenOut, IsWalking, AreSettled, IsUpTo, IsSoundFor};
 
 use crate::events::{Event, events};
@@ -41,7 +42,8 @@ fn is_west(strip: &Strip, r: &Riser, s: &Riser) -> bool
     requires s_on { IsRiserOnGrid s.now }
     requires r_passing { IsPassing strip.now.low strip.now.high r.now }
     requires s_passing { IsPassing strip.now.low strip.now.high s.now }
-    ensures { result ≡ true → IsWest (strip.now.low +ℤ strip.now.high) r.now s.now }
+    ensures west { result ≡ true → IsWest (strip.now.low +ℤ strip.now.high) r.now s.now }
+    ensures not_west { result ≡ false → ¬ IsWest (strip.now.low +ℤ strip.now.high) r.now s.now }
 {
     let (left, right) = (place_in(strip, r), place_in(strip, s));
     (left.over as u128 * right.under as u128) < right.over as u128 * left.under as u128
@@ -54,7 +56,8 @@ fn do_agree(strip: &Strip, r: &Riser, s: &Riser) -> bool
     requires strip { IsStripOnGrid strip.now }
     requires r_on { IsRiserOnGrid r.now }
     requires s_on { IsRiserOnGrid s.now }
-    ensures { result ≡ true → DoAgree r.now s.now }
+    ensures agree { result ≡ true → DoAgree r.now s.now }
+    ensures next { result ≡ false → ¬ IsNextTo strip.now.low strip.now.high r.now s.now }
 {
     r.east == s.west && (does_pass(strip, r) && (does_pass(strip, s) && is_west(strip, r, s)))
 }
@@ -62,7 +65,8 @@ fn do_agree(strip: &Strip, r: &Riser, s: &Riser) -> bool
 /// Whether the outside is west of the first riser of an order.
 fn begins_outside(risers: &[Riser], order: &[usize]) -> bool
     requires { AreIn risers.now order.now }
-    ensures { result ≡ true → BeginsOutside risers.now order.now }
+    ensures begins { result ≡ true → BeginsOutside risers.now order.now }
+    ensures not { result ≡ false → ¬ BeginsOutside risers.now order.now }
 {
     match order {
         [first, ..] => risers[*first].west == 0,
@@ -75,8 +79,10 @@ fn do_agree_at(risers: &[Riser], strip: &Strip, order: &[usize], place: usize) -
     requires strip { IsStripOnGrid strip.now }
     requires risers { All IsRiserOnGrid risers.now }
     requires order { AreIn risers.now order.now }
-    ensures { result ≡ true → 1 ≤ place → place < length order.now →
+    ensures agree { result ≡ true → 1 ≤ place → place < length order.now →
         DoAgreeAt risers.now order.now place }
+    ensures next { result ≡ false → ¬ (1 ≤ place → place < length order.now →
+        IsNextAt strip.now.low strip.now.high risers.now order.now place) }
 {
     if place == 0 || order.len() <= place {
         return true;
@@ -89,8 +95,10 @@ fn do_changed_agree(risers: &[Riser], strip: &Strip, order: &[usize], changed: &
     requires strip { IsStripOnGrid strip.now }
     requires risers { All IsRiserOnGrid risers.now }
     requires order { AreIn risers.now order.now }
-    ensures { result ≡ true → (place : ℕ) → Contains changed.now place → 1 ≤ place →
+    ensures agree { result ≡ true → (place : ℕ) → Contains changed.now place → 1 ≤ place →
         place < length order.now → DoAgreeAt risers.now order.now place }
+    ensures next { result ≡ false → ¬ ((place : ℕ) → 1 ≤ place → place < length order.now →
+        IsNextAt strip.now.low strip.now.high risers.now order.now place) }
 {
     for place in changed {
         if !do_agree_at(risers, strip, order, *place) {
@@ -104,17 +112,20 @@ fn do_changed_agree(risers: &[Riser], strip: &Strip, order: &[usize], changed: &
 fn is_before(riser: &Riser, at: &Point, is_upper: bool) -> bool
     requires riser { IsRiserOnGrid riser.now }
     requires at { IsOnGrid at.now }
+    ensures before { result ≡ true → IsBefore riser.now at.now is_upper }
+    ensures not_before { result ≡ false → ¬ IsBefore riser.now at.now is_upper }
 {
     let turn = orient(riser.a, riser.b, *at);
     turn < 0 || turn == 0 && !is_upper
 }
 
-/// How many risers of an order are before an event, by halving.
+/// The place of an event in an order, by halving: what is left of it is before the event, what is
+/// right of it isn't.
 fn place_for(risers: &[Riser], order: &[usize], at: &Point, is_upper: bool) -> usize
     requires risers { All IsRiserOnGrid risers.now }
     requires order { AreIn risers.now order.now }
     requires at { IsOnGrid at.now }
-    ensures { result ≤ length order.now }
+    ensures { IsPlaceFor risers.now order.now at.now is_upper result }
 {
     let (mut from, mut to) = (0, order.len());
     while from < to {
@@ -137,6 +148,10 @@ fn put_in(risers: &[Riser], walk: &mut Walk, id: usize) -> Result<bool, OutOfMem
         walk.old.changed.items walk.old.last }
     ensures put_in { IfOk result (λ done. done ≡ true →
         IsPutIn id walk.old.order.items walk.new.order.items) }
+    ensures taken { IfOk result (λ done. done ≡ true → IsTakenAt risers.now id false
+        walk.old.order.items walk.new.order.items walk.new.last) }
+    ensures amiss { IfOk result (λ done. done ≡ false →
+        IsAmiss risers.now walk.old.order.items walk.old.last id false) }
     ensures settled { IfOk result (λ done. done ≡ true → AreSettled risers.now
         walk.new.order.items walk.new.changed.items walk.new.last) }
     ensures next { walk.new.next ≡ walk.old.next }
@@ -161,6 +176,10 @@ fn take_out(risers: &[Riser], walk: &mut Walk, id: usize) -> Result<bool, OutOfM
         walk.old.changed.items walk.old.last }
     ensures taken_out { IfOk result (λ done. done ≡ true →
         IsTakenOut id walk.old.order.items walk.new.order.items) }
+    ensures taken { IfOk result (λ done. done ≡ true → IsTakenAt risers.now id true
+        walk.old.order.items walk.new.order.items walk.new.last) }
+    ensures amiss { IfOk result (λ done. done ≡ false →
+        IsAmiss risers.now walk.old.order.items walk.old.last id true) }
     ensures settled { IfOk result (λ done. done ≡ true → AreSettled risers.now
         walk.new.order.items walk.new.changed.items walk.new.last) }
     ensures next { walk.new.next ≡ walk.old.next }
@@ -183,8 +202,15 @@ fn pass(risers: &[Riser], events: &[Event], walk: &mut Walk) -> Result<bool, Out
     requires walking { IsWalking risers.now events.now walk.old.next walk.old.order.items }
     requires settled { AreSettled risers.now walk.old.order.items
         walk.old.changed.items walk.old.last }
+    requires reached { IsReached risers.now events.now walk.old.next
+        walk.old.order.items walk.old.last }
     ensures walking { IfOk result (λ done. done ≡ true →
         IsWalking risers.now events.now walk.new.next walk.new.order.items) }
+    ensures reached { IfOk result (λ done. done ≡ true → IsReached risers.now events.now
+        walk.new.next walk.new.order.items walk.new.last) }
+    ensures amiss { IfOk result (λ done. done ≡ false → IsAmiss risers.now walk.old.order.items
+        walk.old.last (event_at events.now walk.old.next).id
+        (event_at events.now walk.old.next).is_upper) }
     ensures settled { IfOk result (λ done. done ≡ true → AreSettled risers.now
         walk.new.order.items walk.new.changed.items walk.new.last) }
     ensures next { IfOk result (λ done. done ≡ true → walk.new.next ≡ walk.old.next + 1) }
@@ -200,6 +226,7 @@ fn pass(risers: &[Riser], events: &[Event], walk: &mut Walk) -> Result<bool, Out
 }
 
 /// Takes all events up to a level.
+#[tactic(auto, using(crate::proofs::Reached::reached_anew))]
 fn go_up(
     risers: &[Riser],
     events: &[Event],
@@ -214,6 +241,11 @@ fn go_up(
         (slice_index_or events.now i d).level ≤ level }
     requires walking { IsWalking risers.now events.now walk.old.next walk.old.order.items }
     requires neighbours { AreNeighbours risers.now walk.old.order.items }
+    requires reached { IsReached risers.now events.now walk.old.next
+        walk.old.order.items walk.old.last }
+    ensures reached { IfOk result (λ done. done ≡ true → IsReached risers.now events.now
+        walk.new.next walk.new.order.items walk.new.last) }
+    ensures stuck { IfOk result (λ done. done ≡ false → IsStuck risers.now events.now level) }
     ensures walking { IfOk result (λ done. done ≡ true →
         IsWalking risers.now events.now walk.new.next walk.new.order.items) }
     ensures settled { IfOk result (λ done. done ≡ true → AreSettled risers.now
@@ -238,13 +270,16 @@ fn is_chain(risers: &[Riser], strip: &Strip, walk: &Walk) -> bool
     requires order { AreIn risers.now walk.now.order.items }
     requires settled { AreSettled risers.now walk.now.order.items
         walk.now.changed.items walk.now.last }
-    ensures { result ≡ true → IsChain risers.now walk.now.order.items }
+    ensures chain { result ≡ true → IsChain risers.now walk.now.order.items }
+    ensures broken { result ≡ false →
+        ¬ IsChainIn strip.now.low strip.now.high risers.now walk.now.order.items }
 {
     begins_outside(risers, &walk.order)
         && do_changed_agree(risers, strip, &walk.order, &walk.changed)
 }
 
-/// Whether each gap is in one domain or in none. Where this is false it isn't decided.
+/// Whether each gap is in one domain or in none. Where this is false it isn't decided: an end
+/// isn't where it was looked for, or two neighbours don't agree.
 pub fn are_sound(alloc: Global, levels: &[u64], risers: &[Riser]) -> Result<bool, OutOfMemory>
     requires increasing { IsStrictlyIncreasing levels.now }
     requires small { All (λ n. n ≤ WIDTH) levels.now }
@@ -252,9 +287,10 @@ pub fn are_sound(alloc: Global, levels: &[u64], risers: &[Riser]) -> Result<bool
     requires risers { All IsRiserOnGrid risers.now }
     requires free { AllPairs IsFree risers.now }
     requires rising { All IsRising risers.now }
-    ensures { IfOk result (λ sound. sound ≡ true → (chosen : ℕ → Bool) → chosen 0 ≡ false →
+    ensures sound { IfOk result (λ sound. sound ≡ true → (chosen : ℕ → Bool) → chosen 0 ≡ false →
         ((y : ℤ) → winding_of chosen (far y) risers.now ≡ pos 0) →
         IsSoundAll chosen risers.now) }
+    ensures doubtful { IfOk result (λ sound. sound ≡ false → IsDoubtful levels.now risers.now) }
 {
     let events = events(alloc, risers)?;
     let mut walk = Walk {

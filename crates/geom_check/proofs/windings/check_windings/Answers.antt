@@ -42,12 +42,12 @@ side_by_walk points ss rs grid joined closed e sound = all_sides points ss rs jo
     apart d h = grind arith
 
 pub returns-then-branch-clause-winding : goal.returns-then-branch-clause-winding
-returns-then-branch-clause-winding c = side_by_walk c.args.points.now c.args.segments.now c.deref-2.result.now c.requires.on_grid c.requires.joined c.requires.closed (c.deref-2.ensures.value ∙ c.in_ok-risers.ensures) (c.in_ok-are_sound.ensures c.if-branch.true)
+returns-then-branch-clause-winding c = side_by_walk c.args.points.now c.args.segments.now c.deref-2.result.now c.requires.on_grid c.requires.joined c.requires.closed (c.deref-2.ensures.value ∙ c.in_ok-risers.ensures) (c.in_ok-are_sound.ensures.sound c.if-branch.true)
 
 pub returns-then-branch-clause-separate : goal.returns-then-branch-clause-separate
 returns-then-branch-clause-separate c = none_overlap c.args.points.now c.args.segments.now c.deref-2.result.now c.requires.joined (c.deref-2.ensures.value ∙ c.in_ok-risers.ensures)
-    (side_by_walk c.args.points.now c.args.segments.now c.deref-2.result.now c.requires.on_grid c.requires.joined c.requires.closed (c.deref-2.ensures.value ∙ c.in_ok-risers.ensures) (c.in_ok-are_sound.ensures c.if-branch.true))
-    (c.in_ok-are_sound.ensures c.if-branch.true (is_chosen None) refl (λ y. subst (λ (rs : List Riser). winding_of (is_chosen None) (far y) rs ≡ pos 0) (sym (c.deref-2.ensures.value ∙ c.in_ok-risers.ensures)) (far_from_all c.args.points.now c.args.segments.now y c.requires.on_grid c.requires.joined c.requires.closed)))
+    (side_by_walk c.args.points.now c.args.segments.now c.deref-2.result.now c.requires.on_grid c.requires.joined c.requires.closed (c.deref-2.ensures.value ∙ c.in_ok-risers.ensures) (c.in_ok-are_sound.ensures.sound c.if-branch.true))
+    (c.in_ok-are_sound.ensures.sound c.if-branch.true (is_chosen None) refl (λ y. subst (λ (rs : List Riser). winding_of (is_chosen None) (far y) rs ≡ pos 0) (sym (c.deref-2.ensures.value ∙ c.in_ok-risers.ensures)) (far_from_all c.args.points.now c.args.segments.now y c.requires.on_grid c.requires.joined c.requires.closed)))
 
 pub first_side-requires-clause-levels : goal.first_side-requires-clause-levels
 first_side-requires-clause-levels c =
