@@ -2,7 +2,7 @@
 use Rattle.std.proofs.Common.{ℕ, zero, suc, List, inr, refl}
 use Rattle.geom_check.specs.declared.risers.Riser.{Riser}
 use Rattle.geom_check.specs.declared.events.Event.{Event}
-use Rattle.geom_check.specs.Doubt.{IsReached, IsTakenAt, event_at}
+use Rattle.geom_check.specs.Doubt.{IsReached}
 
 pub reached_anew : (risers : List Riser) (events : List Event) (next : ℕ) (order : List ℕ) (last : ℕ) →
     IsReached risers events next order last → IsReached risers events next order 0

@@ -8,13 +8,14 @@
 -- IsAmiss      an event's place is left of what changed last, or its riser, which ends, isn't there
 -- IsDoubtful   in a strip the order is no chain, or an event on the way up to it is amiss
 use Rattle.std.specs.Prelude.{◌≡◌, ◌≢◌, ◌⊎◌, ℕ, zero, suc, ◌+◌, ◌-◌, ◌<◌, ◌≤◌, Bool, true, false, cond, List, [], length, slice_index, slice_index_or, insert, remove, ℤ, pos, ◌+ℤ◌, ◌<ℤ◌}
+use Rattle.std.specs.List.Sorted.{IsNonDecreasingBy}
 use Rattle.grid_geom.specs.declared.Point.{Point}
 use Rattle.grid_geom.specs.Plane.{orient}
 use Rattle.geom_check.specs.declared.risers.Riser.{Riser}
 use Rattle.geom_check.specs.declared.events.Event.{Event}
 use Rattle.geom_check.specs.Risers.{passes}
 use Rattle.geom_check.specs.RiserOrder.{IsWest, height_of}
-use Rattle.geom_check.specs.Walk.{riser_at, AreEndsOf, AreRising, BeginsOutside, IsUpTo}
+use Rattle.geom_check.specs.Walk.{riser_at, AreEndsOf, BeginsOutside, IsUpTo}
 
 -- both pass the strip, r to the left of s, and one domain, or the outside, is east of r and west of s
 pub record IsNextTo (low high : ℤ) (r s : Riser) : Type 0 where
@@ -91,11 +92,11 @@ pub record IsBroken (low high : ℤ) (risers : List Riser) (events : List Event)
   pub reached : IsReached risers events next order last
   pub broken : ¬ (IsChainIn low high risers order)
 
--- with the ends of all risers as events, the walk is stuck below a strip, or its order is no chain there
+-- with the ends of all risers as events, in the order of their keys, the walk is stuck below a strip, or its order is no chain there
 pub record IsDoubtful (levels : List ℕ) (risers : List Riser) : Type 0 where
   pub events : List Event
   pub ends : AreEndsOf risers (length risers) events
-  pub rising : AreRising events
+  pub sorted : IsNonDecreasingBy (λ e. e.key) events
   pub strip : ℕ
   pub positive : 1 ≤ strip
   pub in_list : strip < length levels

@@ -2,18 +2,18 @@
 --
 -- DoAgree       the domain to the east of one riser is that to the west of another, which is right of it
 -- riser_at      the riser at a place of a list
--- IsEnd         an event is an end of a riser
+-- IsEnd         an event is an end of a riser: its key is its level, then its column, then how far its riser leans
 -- AreEndsOf     events are the two ends of each riser
 -- IsChain       each two neighbours of an order agree, and the outside is to the west of the first
 -- IsWalking     an order has the risers that have begun and not ended
 -- AreSettled    each two neighbours agree, but at the places that changed
-use Rattle.std.specs.Prelude.{◌≡◌, ◌⊎◌, ℕ, zero, suc, ◌+◌, ◌-◌, ◌*◌, ◌<◌, ◌≤◌, Bool, false, cond, List, length, take, slice_index_or, insert, remove, sum_by, All, Contains, ℤ, pos, ◌+ℤ◌}
+use Rattle.std.specs.Prelude.{◌≡◌, ◌⊎◌, ℕ, zero, suc, ◌+◌, ◌-◌, ◌*◌, ◌/◌, ◌<◌, ◌≤◌, Bool, false, cond, List, length, take, slice_index_or, insert, remove, sum_by, All, Contains, ℤ, pos, ◌+ℤ◌, ◌-ℤ◌, unsigned_abs}
 use Rattle.grid_geom.specs.declared.TheConstants.{GRID}
 use Rattle.geom_check.specs.declared.risers.Riser.{Riser}
 use Rattle.geom_check.specs.declared.events.Event.{Event}
 use Rattle.geom_check.specs.RiserOrder.{IsAcross, IsWest, IsSound, far}
 use Rattle.geom_check.specs.Risers.{winding_of}
-use Rattle.geom_check.specs.declared.limits.TheConstants.{KEYS}
+use Rattle.geom_check.specs.declared.limits.TheConstants.{KEYS, LEANS, LEAN_PARTS, WIDTH}
 
 -- the same domain, or the outside, is east of r and west of s, and at some height that both cross r is left of s. Then it is so
 -- at each such height, where they don't cross each other
@@ -33,11 +33,25 @@ riser_at risers id = slice_index_or risers id (record {
   east = 0;
 })
 
+-- how far a riser goes up
+abbrev pub up_of : Riser → ℕ
+up_of r = unsigned_abs (r.b.y -ℤ r.a.y)
+
+-- the column of an end: at one place upper ends stand left of lower ones
+abbrev pub column_of : Riser → Bool → ℕ
+column_of r is_upper = cond is_upper (2 * unsigned_abs (r.b.x +ℤ GRID)) (2 * unsigned_abs (r.a.x +ℤ GRID) + 1)
+
+-- how far a riser leans to the right on the way from an end, to a step up or down: the quotient, rounded downwards, in parts
+-- that tell two slopes apart, from -WIDTH on
+abbrev pub lean_of : Riser → Bool → ℕ
+lean_of r is_upper = unsigned_abs (pos (WIDTH * up_of r) +ℤ cond is_upper (r.a.x -ℤ r.b.x) (r.b.x -ℤ r.a.x)) * LEAN_PARTS / up_of r
+
 -- an event is the lower or the upper end of a riser: its key is among those of the end's level
 pub record IsEnd (r : Riser) (e : Event) : Type 0 where
   pub level_is : pos e.level ≡ cond e.is_upper r.b.y r.a.y +ℤ GRID
   pub from_level : e.level * KEYS ≤ e.key
   pub below_next : e.key < (e.level + 1) * KEYS
+  pub key_is : e.key ≡ e.level * KEYS + column_of r e.is_upper * LEANS + lean_of r e.is_upper
 
 -- an event is an end of a riser of the list
 pub record IsEndOf (risers : List Riser) (e : Event) : Type 0 where

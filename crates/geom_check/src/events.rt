@@ -1,6 +1,7 @@
 // The ends of risers as the events of a walk: rising, at one height from left to right, and at one
 // point upper ends before lower ones, each from left to right.
-ghost use Rattle.std.specs.Prelude.{◌≡◌, ◌+◌, ◌*◌, ◌<◌, ◌≤◌, true, false, length, All, IfOk, pos};
+ghost use Rattle.std.specs.Prelude.{◌≡◌, ◌+◌, ◌*◌, ◌/◌, ◌-ℤ◌, ◌<◌, ◌≤◌, true, false, length, All, IfOk, pos};
+ghost use Rattle.std.specs.List.Sorted.{IsNonDecreasingBy};
 ghost use Rattle.geom_check.specs.RiserOrder.{IsRiserOnGrid, IsRising};
 ghost use Rattle.geom_check.specs.Walk.{IsEnd, AreEndsOf, AreRising};
 
@@ -26,6 +27,7 @@ pub struct Event {
 fn up(riser: &Riser) -> u64
     requires riser { IsRiserOnGrid riser.now }
     requires rising { IsRising riser.now }
+    ensures value { pos result ≡ riser.now.b.y -ℤ riser.now.a.y }
     ensures positive { 0 < result }
     ensures small { result ≤ WIDTH }
 {
@@ -37,7 +39,8 @@ fn lean(across: u64, up: u64) -> u128
     requires positive { 0 < up }
     requires small { across ≤ 2 * WIDTH * up }
     requires low { up ≤ WIDTH }
-    ensures { result < LEANS }
+    ensures value { result ≡ across * LEAN_PARTS / up }
+    ensures small { result < LEANS }
 {
     across as u128 * LEAN_PARTS / up as u128
 }
@@ -47,6 +50,7 @@ fn key_of(level: u64, column: u64, lean: u128) -> u128
     requires level { level ≤ WIDTH }
     requires column { column ≤ 2 * WIDTH + 1 }
     requires lean { lean < LEANS }
+    ensures value { result ≡ level * KEYS + column * LEANS + lean }
     ensures from_level { level * KEYS ≤ result }
     ensures below_next { result < (level + 1) * KEYS }
 {
@@ -113,6 +117,7 @@ pub fn events(alloc: Global, risers: &[Riser]) -> Result<Vec<Event>, OutOfMemory
     requires rising { All IsRising risers.now }
     ensures ends { IfOk result (λ v. AreEndsOf risers.now (length risers.now) v.items) }
     ensures rising { IfOk result (λ v. AreRising v.items) }
+    ensures sorted { IfOk result (λ v. IsNonDecreasingBy (λ e. e.key) v.items) }
 {
     let mut events = all_events(alloc, risers)?;
     events.sort_unstable_by_key(|event| event.key);

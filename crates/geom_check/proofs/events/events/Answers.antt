@@ -11,3 +11,6 @@ returns-clause-rising c =
     rising_levels c.args.risers.now (length c.args.risers.now) c.sort_unstable_by_key.new.self.items
     (sorted_ends c.args.risers.now (length c.args.risers.now) c.in_ok-events.events.items c.sort_unstable_by_key.new.self.items c.sort_unstable_by_key.ensures.permutation c.in_ok-events.ensures)
     (IsNonDecreasingBy-from_sort_by_key (λ e. e.key) _ c.sort_unstable_by_key.ensures.sorted (λ a r q k. search rules))
+
+pub returns-clause-sorted : goal.returns-clause-sorted
+returns-clause-sorted c = IsNonDecreasingBy-from_sort_by_key (λ e. e.key) _ c.sort_unstable_by_key.ensures.sorted (λ a r q k. search rules)

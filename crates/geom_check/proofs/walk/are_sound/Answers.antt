@@ -30,7 +30,7 @@ pub returns-then-not-done-clause-doubtful : goal.returns-then-not-done-clause-do
 returns-then-not-done-clause-doubtful c e = record {
   events = c.in_ok-events.events.items;
   ends = c.in_ok-events.ensures.ends;
-  rising = c.in_ok-events.ensures.rising;
+  sorted = c.in_ok-events.ensures.sorted;
   strip = c.loop-i.i;
   positive = omega arith;
   in_list = omega arith;
