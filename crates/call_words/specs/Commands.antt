@@ -137,7 +137,8 @@ HasOneName (ViewOf _ _ _) = ⊥
 HasOneName (ReplayOf _ _ _) = ⊥
 HasOneName (GenOf _ _) = ⊥
 
--- the words after the verb have this fault: they are in no way in its form; they are in it, but stand for no task, since a number isn't of its kind; or they stand for a task with one name for mesh and log
+-- the words after the verb have this fault: they are in no way in its form; they are in it, but stand for no
+-- task, since a number isn't of its kind; or they stand for a task with one name for mesh and log
 abbrev pub IsFaultOf : Verb → List (List ℕ) → WordsFault → Type 0
 IsFaultOf verb words Form = (places : List (List ℕ)) (given : Given)
     → ¬ IsForm verb words places given

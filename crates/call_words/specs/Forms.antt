@@ -1,7 +1,8 @@
 -- What `clap` gives of the words after a verb.
 --
 -- asked_of    the command of a verb
--- IsRead      what is found stands for what is read of the words, and nothing is found where nothing in the form is read
+-- IsRead      what is found stands for what is read of the words, and nothing is found where nothing in the
+--             form is read
 use Rattle.std.specs.Prelude.{◌≡◌, ◌≢◌, ℕ, Bool, true, false, List, length, Option, Some, None, slice_get}
 use Rattle.std.specs.Option.{option_copied}
 use Rattle.clap.specs.Words.{App}

@@ -8,7 +8,8 @@
 -- IsRight       the word may be this place
 -- FitsRight     the words behind the walk make it one that stands for a task
 -- IsOnCourse    some words do
-use Rattle.std.specs.Prelude.{◌≡◌, ℕ, ◌+◌, ◌≢◌, ◌≤◌, ◌==◌, Bool, true, false, ◌&&◌, if◌then◌else◌, nat_lt, List, [], ◌∷◌, length, Option, Some, None, option_map}
+use Rattle.std.specs.Prelude.{◌≡◌, ℕ, ◌+◌, ◌≢◌, ◌≤◌, ◌==◌, Bool, true, false, ◌&&◌, if◌then◌else◌}
+use Rattle.std.specs.Prelude.{nat_lt, List, [], ◌∷◌, length, Option, Some, None, option_map}
 use Rattle.std.specs.Option.{option_copied}
 use Rattle.call_words.specs.declared.command.Verb.{Verb}
 use Rattle.call_words.specs.declared.command.Verb.TheVariants as verbs
@@ -20,7 +21,8 @@ use Rattle.call_words.specs.declared.misfit.Sort.TheVariants as sorts
 use Rattle.call_words.specs.declared.misfit.Walk.{Walk as WalkValue}
 use Rattle.call_words.specs.CommandLine.{setting_word, Given, nothing_given, word_given, with_word}
 use Rattle.call_words.specs.Commands.{place_count, IsWholeFrom, AreOptions}
-use Rattle.call_words.specs.WordsRead.{given_of, WordSort, PlainWord, Dashes, Before, With, Other, word_sort, is_plain_sort, setting_of, reading}
+use Rattle.call_words.specs.WordsRead.{given_of, WordSort, PlainWord, Dashes, Before, With, Other}
+use Rattle.call_words.specs.WordsRead.{word_sort, is_plain_sort, setting_of, reading}
 use Rattle.call_words.specs.Forms.{takes_options}
 
 -- what a word may be, without where its bytes lie

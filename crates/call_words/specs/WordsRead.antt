@@ -4,7 +4,8 @@
 -- set_called   the options with one more set, where it is an option and isn't set yet
 -- given_of     the words that options are set to
 -- reading      the places and the options, where the words can be read
-use Rattle.std.specs.Prelude.{ℕ, Bool, true, false, ◌==◌, if◌then◌else◌, List, [], ◌∷◌, Option, Some, None, option_map, option_and_then, bytes_eq}
+use Rattle.std.specs.Prelude.{ℕ, Bool, true, false, ◌==◌, if◌then◌else◌, List, [], ◌∷◌, Option}
+use Rattle.std.specs.Prelude.{Some, None, option_map, option_and_then, bytes_eq}
 use Rattle.std.specs.Option.{option_copied}
 use Rattle.call_words.specs.declared.settings.Setting.{Setting}
 use Rattle.call_words.specs.declared.settings.Settings.{Settings}
@@ -89,7 +90,8 @@ set_called name word given =
 abbrev pub with_place : List ℕ → Option (List (List ℕ) × Given) → Option (List (List ℕ) × Given)
 with_place word found = option_map (λ (places, all). (word ∷ places, all)) found
 
--- what is read from a word of this sort on, and how the words behind it are read where an option waits for its value or none does
+-- what is read from a word of this sort on, and how the words behind it are read where an option waits for its
+-- value or none does
 abbrev pub read_word : WordSort → Given → List ℕ → List (List ℕ)
     → (Option (List ℕ) → Given → Option (List (List ℕ) × Given)) → Option (List (List ℕ) × Given)
 read_word PlainWord given word words behind = with_place word (behind None given)

@@ -24,6 +24,3 @@ pub use at_fault::first_at_fault;
 pub use command::{Command, MeshCall, MeshOptions, Verb, read_words};
 pub use misfit::first_misfit;
 pub use words_fault::WordsFault;
-
-#[cfg(test)]
-mod tests;

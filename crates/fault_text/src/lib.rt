@@ -19,9 +19,6 @@ mod spot;
 mod words;
 mod writing;
 
-pub use sentences::{File, Reason, Refused, sentence};
+pub use sentences::{File, Refused, sentence};
 pub use spot::{Cursor, Spot, spot_of};
 pub use words::{CallWord, fault_of, misfit_of};
-
-#[cfg(test)]
-mod tests;

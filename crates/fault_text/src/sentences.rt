@@ -3,25 +3,13 @@
 use crate::{geometry, in2d, rules, runs, words, writing};
 use std::alloc::{AllocError, Global};
 use std::fmt::Write;
+use std::io::ErrorKind;
 
 /// A file that was taken: its name, and its bytes where they are at hand.
 #[derive(Clone, Copy, Debug)]
 pub struct File<'a> {
     pub name: &'a str,
     pub text: &'a [u8],
-}
-
-/// Why the system refuses a file, where that is at hand.
-#[derive(Clone, Copy, Debug, PartialEq, Eq)]
-pub enum Reason {
-    /// The name is that of a folder.
-    IsFolder,
-    /// The system denies the access.
-    Denied,
-    /// The folder that the file is in is not there.
-    NoFolder,
-    /// It is not at hand.
-    Unknown,
 }
 
 /// A refusal as plain values: the numbers are those of its line, from the first on.
@@ -59,12 +47,13 @@ pub enum Refused<'a> {
         file: File<'a>,
         numbers: &'a [i128],
     },
-    /// `refused folder ..`, of a file of which at most `limit` bytes are taken.
+    /// `refused folder ..`, of a file of which at most `limit` bytes are taken, with what sort of fault the
+    /// system gave, where it gave one.
     Folder {
         name: &'a str,
         fault: u32,
         limit: u64,
-        reason: Reason,
+        reason: Option<ErrorKind>,
     },
     /// `refused notyet ..`.
     NotYet,
@@ -97,7 +86,7 @@ pub fn sentence(alloc: Global, refused: &Refused<'_>) -> Result<String, AllocErr
         } => {
             write_folder(&mut text, name, *fault, *limit)?;
             if *fault == 1 {
-                text.push_str(reason_text(*reason))?;
+                write_reason(&mut text, *reason)?;
             }
         }
         Refused::NotYet => text.push_str("netmesh: refused: this verb is not built yet")?,
@@ -118,12 +107,21 @@ fn write_folder(text: &mut String, name: &str, fault: u32, limit: u64) -> Result
     }
 }
 
-/// What is added where the system's reason is at hand.
-fn reason_text(reason: Reason) -> &'static str {
+/// Adds the system's reason, where it gave one.
+fn write_reason(text: &mut String, reason: Option<ErrorKind>) -> Result<(), AllocError> {
+    let Some(reason) = reason else {
+        return Ok(());
+    };
     match reason {
-        Reason::IsFolder => ": it is a folder",
-        Reason::Denied => ": the system denies it",
-        Reason::NoFolder => ": its folder is not there",
-        Reason::Unknown => "",
+        ErrorKind::IsADirectory => text.push_str(": it is a folder"),
+        ErrorKind::PermissionDenied => text.push_str(": the system denies it"),
+        ErrorKind::NotFound => text.push_str(": its folder is not there"),
+        ErrorKind::NotADirectory => text.push_str(": what should be its folder is a file"),
+        ErrorKind::ReadOnlyFilesystem => text.push_str(": its disk can't be written"),
+        ErrorKind::StorageFull => text.push_str(": the disk is full"),
+        ErrorKind::FileTooLarge => text.push_str(": the system allows no file as long"),
+        ErrorKind::InvalidFilename => text.push_str(": its name is too long"),
+        ErrorKind::Uncategorized => Ok(()),
+        other => write!(text, ": {other}"),
     }
 }

@@ -1,5 +1,6 @@
 -- What licenses a failure, and what an object of the outside tells.
-use Rattle.std.specs.Prelude.{◌≡◌, ℕ, ◌+◌, ◌-◌, ◌^◌, ◌≤◌, min, List, ◌++◌, length, take, None, Some, Option, MatchOption}
+use Rattle.std.specs.Prelude.{◌≡◌, ℕ, ◌+◌, ◌-◌, ◌^◌, ◌≤◌, min, List, ◌++◌, length, take, None, Some}
+use Rattle.std.specs.Prelude.{Option, MatchOption}
 
 -- a count of failures rose: it is greater now than before, or stands at the counter's last value
 abbrev pub Rose : ℕ → ℕ → Type 0

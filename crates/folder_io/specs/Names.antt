@@ -1,5 +1,7 @@
 -- What stands under the names of a folder.
-use Rattle.std.specs.Prelude.{◌≡◌, ◌≢◌, ℕ, ◌<◌, List, MatchOption, map, length, nat_le, nat_eq, not, ◌⊎◌, None, Some, Option, Ok, Err, Result, MatchResult, String, string_bytes, Vec, if◌then◌else◌}
+use Rattle.std.specs.Prelude.{◌≡◌, ◌≢◌, ℕ, ◌<◌, List, MatchOption, map, length, nat_le, nat_eq, not}
+use Rattle.std.specs.Prelude.{◌⊎◌, None, Some, Option, Ok, Err, Result, MatchResult, String}
+use Rattle.std.specs.Prelude.{string_bytes, Vec, if◌then◌else◌}
 use Rattle.std.specs.List.{zip, filter}
 use Rattle.std.specs.Ordering.{nat_cmp}
 use Rattle.std.specs.Cmp.Lexicographic.{slice_cmp, pointwise}

@@ -2,6 +2,8 @@
 use Rattle.std.specs.Prelude.{refl, ◌==◌, ℕ, ◌+◌, ◌-◌, ◌^◌, min, Bool, ◌&&◌, nat_lt, List, if◌then◌else◌}
 use Rattle.std.specs.List.{list_any}
 use Rattle.std.specs.FinMap as finite
+use Rattle.std.specs.Prelude.{Option}
+use Rattle.std.specs.declared.io.ErrorKind.{ErrorKind}
 use Rattle.std.specs.Coded.{Coded, code_by, coded×, coded_list, coded_ℕ}
 use Rattle.folder_io.specs.Names.{Files}
 
@@ -40,10 +42,12 @@ pub record MemorySink : Type 0 where
   pub written : List ℕ
   pub plan : Plan
 
--- what the adapter of the working folder knows: how many calls failed, and the name at the last failure
+-- what the adapter of the working folder knows: how many calls failed, and of the last that did the name
+-- and what sort of fault the system gave
 pub record Failures : Type 0 where
   pub faults : ℕ
   pub last : List ℕ
+  pub reason : Option ErrorKind
 
 -- how a folder in memory is told apart from another
 abbrev pub coded_Plan : Coded Plan

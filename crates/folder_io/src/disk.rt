@@ -1,5 +1,6 @@
 //! The working folder of the system.
-ghost use Rattle.std.specs.Prelude.{◌≡◌, ◌+◌, ◌-◌, ◌^◌, min, [], take, None, IfOk};
+ghost use Rattle.std.specs.Prelude.{◌≡◌, ◌≤◌, ◌+◌, ◌-◌, ◌^◌, min, [], take, None, Some, IfOk};
+ghost use Rattle.std.specs.Prelude.{string_bytes};
 ghost use Rattle.folder_io.specs.Causes.{Told};
 
 use crate::faults::{PutFault, TakeFault};
@@ -18,6 +19,7 @@ pub struct FolderDisk<R: Files + Drop> {
     rt: R,
     faults: u64,
     last: String,
+    reason: Option<ErrorKind>,
 }
 
 impl<R: Files + Drop> Model for FolderDisk<R> {
@@ -26,18 +28,23 @@ impl<R: Files + Drop> Model for FolderDisk<R> {
 
     ghost Value = { Failures };
 
-    ghost view = { λ a. record { faults = a.faults; last = string_bytes a.last } };
+    ghost view = { λ a. record {
+      faults = a.faults;
+      last = string_bytes a.last;
+      reason = a.reason;
+    } };
 }
 
 impl<R: Files + Drop> FolderDisk<R> {
     /// The working folder that the runtime reaches.
     pub fn new(rt: R, alloc: Global) -> Self
-        ensures { result ≡ record { faults = 0; last = [] } }
+        ensures { result ≡ record { faults = 0; last = []; reason = None } }
     {
         FolderDisk {
             rt,
             faults: 0,
             last: String::new(alloc),
+            reason: None,
         }
     }
 
@@ -54,6 +61,27 @@ impl<R: Files + Drop> FolderDisk<R> {
     {
         self.last.as_str()
     }
+
+    /// What sort of fault the system gave at the last call that failed, none before the first.
+    pub fn reason(&self) -> Option<ErrorKind>
+        ensures { result ≡ self.now.reason }
+    {
+        self.reason
+    }
+
+    /// Counts a call that failed at this name, for this reason.
+    fn count(&mut self, name: String, reason: ErrorKind)
+        ensures counted { self.new ≡ record {
+          faults = min (self.old.faults + 1) (2 ^ 64 - 1);
+          last = string_bytes name;
+          reason = Some reason;
+        } }
+        ensures rises { self.old.faults ≤ self.new.faults }
+    {
+        self.faults = self.faults.saturating_add(1);
+        self.last = name;
+        self.reason = Some(reason);
+    }
 }
 
 impl<R: Files + Drop> Folder for FolderDisk<R> {
@@ -68,9 +96,8 @@ impl<R: Files + Drop> Folder for FolderDisk<R> {
             Ok(_) => Err(TakeFault::TooLong),
             Err(e) if e.kind() == ErrorKind::NotFound => Err(TakeFault::Missing),
             Err(e) if e.kind() == ErrorKind::OutOfMemory => Err(TakeFault::Memory),
-            Err(_) => {
-                self.faults = self.faults.saturating_add(1);
-                self.last = copy;
+            Err(e) => {
+                self.count(copy, e.kind());
                 Err(TakeFault::Failed)
             }
         }
@@ -83,9 +110,8 @@ impl<R: Files + Drop> Folder for FolderDisk<R> {
         match put_whole(&self.rt, alloc, name, bytes) {
             Ok(()) => Ok(()),
             Err(e) if e.kind() == ErrorKind::OutOfMemory => Err(PutFault::Memory),
-            Err(_) => {
-                self.faults = self.faults.saturating_add(1);
-                self.last = copy;
+            Err(e) => {
+                self.count(copy, e.kind());
                 Err(PutFault::Failed)
             }
         }

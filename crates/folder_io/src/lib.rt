@@ -24,8 +24,6 @@ mod sink;
 mod standard;
 mod sure;
 mod table;
-#[cfg(test)]
-mod tests;
 mod whole;
 
 pub use disk::FolderDisk;

@@ -1,6 +1,7 @@
 //! A folder and a sink in memory, which tell everything and fail at the calls that they were made to
 //! fail at.
-ghost use Rattle.std.specs.Prelude.{◌≡◌, ◌≤◌, ◌⊎◌, ◌++◌, [], true, length, Some, IfOk, OnOk, OnErr, IsErrOf, if◌then◌else◌, Ok, Err};
+ghost use Rattle.std.specs.Prelude.{◌≡◌, ◌≤◌, ◌⊎◌, ◌++◌, [], true, length, Some, IfOk, OnOk, OnErr};
+ghost use Rattle.std.specs.Prelude.{IsErrOf, if◌then◌else◌, Ok, Err};
 ghost use Rattle.std.specs.Option.{option_copied};
 ghost use Rattle.std.specs.FinMap as finite;
 ghost use Rattle.folder_io.specs.Causes.{Rose};

@@ -27,7 +27,8 @@ use Rattle.netmesh_cli.specs.declared.made.Made.{Made as MadeValue}
 use Rattle.call_words.specs.declared.command.MeshCall.{MeshCall}
 use Rattle.call_words.specs.declared.command.MeshOptions.{MeshOptions}
 use Rattle.netmesh_cli.specs.declared.asked.Asked.{Asked}
-use Rattle.netmesh_cli.specs.declared.asked.Asked.TheVariants.{Mesh as MeshAsked, Geom, Rules, Check, View as ViewAsked, Gen}
+use Rattle.netmesh_cli.specs.declared.asked.Asked.TheVariants.{Mesh as MeshAsked, Geom, Rules}
+use Rattle.netmesh_cli.specs.declared.asked.Asked.TheVariants.{Check, View as ViewAsked, Gen}
 use Rattle.call_words.specs.Commands.{Task, MeshTask, MeshOf, GeomOf, RulesOf, CheckOf, ViewOf, GenOf}
 use Rattle.netmesh_cli.specs.Held.{HoldsGeometry, HoldsRules, HoldsVol, HoldsState}
 use Rattle.netmesh_cli.specs.Taking.{Taken, geometry_at, rule_file_at, mesh_at, state_log_at}

@@ -6,7 +6,8 @@
 use Rattle.std.specs.Prelude.{ℕ, List, [], ◌∷◌, ◌++◌, codes, ℤ, pos}
 use Rattle.text_rows.specs.Rows.{spaced_signed}
 use Rattle.mesh_check.specs.declared.verdict.Verdict.{Verdict}
-use Rattle.mesh_check.specs.declared.verdict.Verdict.TheVariants.{SamePlace, Edges, Domain, Turned, Hanging, Chain, Whole}
+use Rattle.mesh_check.specs.declared.verdict.Verdict.TheVariants.{SamePlace, Edges, Domain, Turned}
+use Rattle.mesh_check.specs.declared.verdict.Verdict.TheVariants.{Hanging, Chain, Whole}
 use Rattle.netmesh_cli.specs.declared.outcome.Outcome.{Outcome}
 use Rattle.netmesh_cli.specs.declared.outcome.Outcome.TheVariants.{Good, Bad}
 
@@ -14,7 +15,8 @@ use Rattle.netmesh_cli.specs.declared.outcome.Outcome.TheVariants.{Good, Bad}
 abbrev pub verdict_row : List ℕ → List ℤ → List ℕ
 verdict_row words numbers = words ++ spaced_signed numbers ++ codes "\n"
 
--- the verdict on a mesh of so many elements: that it is whole, and how many they are; or its first fault, with its place
+-- the verdict on a mesh of so many elements: that it is whole, and how many they are; or its first fault, with
+-- its place
 abbrev pub verdict_line : ℕ → Verdict → List ℕ
 verdict_line elements Whole = verdict_row (codes "whole elements") (pos elements ∷ [])
 verdict_line elements (SamePlace i j) = verdict_row (codes "bad same-place") (pos i ∷ pos j ∷ [])

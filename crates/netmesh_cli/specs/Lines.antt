@@ -6,9 +6,15 @@ use Rattle.std.specs.Prelude.{ℕ, List, [], ◌∷◌, ◌++◌, codes, ℤ, po
 use Rattle.std.specs.Fmt.{decimal}
 use Rattle.text_rows.specs.Rows.{spaced_signed}
 use Rattle.in2d_reader.specs.declared.refusal.In2dRefusal.{In2dRefusal}
-use Rattle.in2d_reader.specs.declared.refusal.In2dRefusal.TheVariants.{Syntax, Number, Curved, TooMany, NumberTwice, UnknownPoint, Memory as NoMemoryThere}
+use Rattle.in2d_reader.specs.declared.refusal.In2dRefusal.TheVariants.{Syntax, Number, Curved}
+use Rattle.in2d_reader.specs.declared.refusal.In2dRefusal.TheVariants.{TooMany, NumberTwice}
+use Rattle.in2d_reader.specs.declared.refusal.In2dRefusal.TheVariants.{UnknownPoint}
+use Rattle.in2d_reader.specs.declared.refusal.In2dRefusal.TheVariants.{Memory as NoMemoryThere}
 use Rattle.geom_check.specs.declared.refusal.GeomRefusal.{GeomRefusal}
-use Rattle.geom_check.specs.declared.refusal.GeomRefusal.TheVariants.{NoDomain, TooLarge, SamePlace, SameSides, NoLength, Meet, OpenAt, Side, Overlap, Memory as NoMemoryHere}
+use Rattle.geom_check.specs.declared.refusal.GeomRefusal.TheVariants.{NoDomain, TooLarge, SamePlace}
+use Rattle.geom_check.specs.declared.refusal.GeomRefusal.TheVariants.{SameSides, NoLength, Meet}
+use Rattle.geom_check.specs.declared.refusal.GeomRefusal.TheVariants.{OpenAt, Side, Overlap}
+use Rattle.geom_check.specs.declared.refusal.GeomRefusal.TheVariants.{Memory as NoMemoryHere}
 use Rattle.rule_reader.specs.declared.fault.RuleRefusal.{RuleRefusal}
 use Rattle.rule_reader.specs.declared.fault.RuleRefusal.TheVariants as fault_of_rules
 use Rattle.vol_format.specs.declared.refusal.VolRefusal.{VolRefusal}
@@ -18,7 +24,9 @@ use Rattle.run_log.specs.declared.refusal.LogRefusal.TheVariants as fault_of_log
 use Rattle.call_words.specs.declared.words_fault.WordsFault.{WordsFault}
 use Rattle.call_words.specs.declared.words_fault.WordsFault.TheVariants.{NoVerb, UnknownVerb, Form, Value, SameName}
 use Rattle.netmesh_cli.specs.declared.outcome.Refusal.{Refusal}
-use Rattle.netmesh_cli.specs.declared.outcome.Refusal.TheVariants.{Words, In2d, Geometry, Rules, Vol, Log, Folder, Out, Memory, NotYet}
+use Rattle.netmesh_cli.specs.declared.outcome.Refusal.TheVariants.{Words, In2d, Geometry, Rules}
+use Rattle.netmesh_cli.specs.declared.outcome.Refusal.TheVariants.{Vol, Log, Folder, Out, Memory}
+use Rattle.netmesh_cli.specs.declared.outcome.Refusal.TheVariants.{NotYet}
 
 -- `refused`, the kind, and the numbers, each after one space
 abbrev pub numbers_line : List ℕ → List ℤ → List ℕ

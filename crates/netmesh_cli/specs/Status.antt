@@ -3,7 +3,9 @@ use Rattle.std.specs.Prelude.{ℕ}
 use Rattle.netmesh_cli.specs.declared.outcome.Outcome.{Outcome}
 use Rattle.netmesh_cli.specs.declared.outcome.Outcome.TheVariants.{Done, Stuck, Stopped, Good, Bad, Shown, Refused}
 use Rattle.netmesh_cli.specs.declared.outcome.Refusal.{Refusal}
-use Rattle.netmesh_cli.specs.declared.outcome.Refusal.TheVariants.{Words, In2d, Geometry, Rules, Vol, Log, Folder, Out, Memory, NotYet}
+use Rattle.netmesh_cli.specs.declared.outcome.Refusal.TheVariants.{Words, In2d, Geometry, Rules}
+use Rattle.netmesh_cli.specs.declared.outcome.Refusal.TheVariants.{Vol, Log, Folder, Out, Memory}
+use Rattle.netmesh_cli.specs.declared.outcome.Refusal.TheVariants.{NotYet}
 
 abbrev pub refusal_status : Refusal → ℕ
 refusal_status (Words _) = 2

@@ -150,7 +150,8 @@ pub record Exactly (job : Job) (outcome : Outcome) (failed untaken : Type 0) (fi
 -- ---- mesh
 
 -- a call of `mesh` that wasn't refused: from the files that were held at entry to those that are held now
-pub record HoldsMesh (task : MeshTask) (outcome : Outcome) (written now_written : Option (List ℕ)) (old new : Files) : Type 0 where
+pub record HoldsMesh (task : MeshTask) (outcome : Outcome) (written now_written : Option (List ℕ))
+    (old new : Files) : Type 0 where
   -- the geometry under GEOMETRY and the rules under RULES are accepted: each file has at most 1,048,576 bytes
   pub input : MeshInput
   pub raw : RawGeometry

@@ -2,7 +2,8 @@
 use Rattle.std.specs.Prelude.{◌≡◌, ℕ, List}
 use Rattle.netmesh_cli.specs.declared.outcome.Refusal.{Refusal}
 use Rattle.netmesh_cli.specs.declared.outcome.Refusal.TheVariants.{Words, Memory, NotYet}
-use Rattle.call_words.specs.Commands.{Task, MeshOf, GeomOf, RulesOf, CheckOf, ViewOf, ReplayOf, GenOf, IsCommand, IsFault}
+use Rattle.call_words.specs.Commands.{Task, MeshOf, GeomOf, RulesOf, CheckOf, ViewOf, ReplayOf}
+use Rattle.call_words.specs.Commands.{GenOf, IsCommand, IsFault}
 
 -- what is not built yet: the verb `replay`
 abbrev pub IsUnbuilt : Task → Type 0

@@ -125,10 +125,11 @@ fn main(rt: HostRuntime) -> ExitCode {
     };
     let mut folder = FolderDisk::new(for_folder, alloc);
     let mut out = SinkStd::new(for_sink);
-    let gate = Progress::new(&rt);
+    let gate = Progress::new(&rt, &words);
     let outcome = netmesh(&rt, alloc, &words, &mut folder, &mut out, &gate);
     if let Outcome::Refused(refusal) = &outcome {
-        said::say(&rt, &mut folder, &words, refusal);
+        let reason = folder.reason();
+        said::say(&rt, &mut folder, &words, refusal, reason);
     }
     exit_of(&outcome)
 }

@@ -5,7 +5,7 @@ ghost use Rattle.std.specs.Prelude.{◌≡◌};
 
 use super::{FILE_LIMIT, RUN_FILE_LIMIT, Refusal};
 use call_words::{Command, WordsFault, read_words};
-use fault_text::{File, Reason, Refused, sentence};
+use fault_text::{File, Refused, sentence};
 use folder_io::Folder;
 use geom_check::GeomRefusal;
 use in2d_reader::In2dRefusal;
@@ -14,7 +14,6 @@ use run_log::LogRefusal;
 use std::alloc::Global;
 use std::fs;
 use std::io::{ErrorKind, Write};
-use std::path::Path;
 use vol_format::VolRefusal;
 
 /// The numbers of a refusal's line, with noughts behind them.
@@ -169,33 +168,6 @@ fn bytes_again<F: Folder>(
     }
 }
 
-/// Whether the folder that a name is in is there.
-fn has_folder(rt: &HostRuntime, name: &str) -> bool {
-    match Path::new(name).parent() {
-        None => true,
-        Some(folder) => folder.as_str() == "" || folder.is_dir(rt),
-    }
-}
-
-/// Why the system refused the file of this name, where that can still be seen.
-fn reason_of(rt: &HostRuntime, name: &str) -> Reason {
-    match fs::metadata(rt, name) {
-        Ok(found) if found.is_dir() => Reason::IsFolder,
-        Ok(_) => match fs::open(rt, name) {
-            Err(fault) if fault.kind() == ErrorKind::PermissionDenied => Reason::Denied,
-            _ => Reason::Unknown,
-        },
-        Err(fault) if fault.kind() == ErrorKind::PermissionDenied => Reason::Denied,
-        Err(_) => {
-            if has_folder(rt, name) {
-                Reason::Unknown
-            } else {
-                Reason::NoFolder
-            }
-        }
-    }
-}
-
 /// Writes a sentence to standard error. Where it can't be made or isn't taken, nothing more is said.
 pub fn write_sentence(rt: &HostRuntime, refused: &Refused<'_>) {
     if let Ok(text) = sentence(rt.alloc(), refused) {
@@ -203,8 +175,15 @@ pub fn write_sentence(rt: &HostRuntime, refused: &Refused<'_>) {
     }
 }
 
-/// Says of a call with these words why it was refused. The file that is at fault is taken once more.
-pub fn say<F: Folder>(rt: &HostRuntime, folder: &mut F, words: &[String], refusal: &Refusal)
+/// Says of a call with these words why it was refused, and of a folder's fault what the system's reason was.
+/// A file that is at fault by what it holds is taken once more.
+pub fn say<F: Folder>(
+    rt: &HostRuntime,
+    folder: &mut F,
+    words: &[String],
+    refusal: &Refusal,
+    reason: Option<ErrorKind>,
+)
     ensures held { (F.state folder.new).held ≡ (F.state folder.old).held }
 {
     match refusal {
@@ -227,7 +206,7 @@ pub fn say<F: Folder>(rt: &HostRuntime, folder: &mut F, words: &[String], refusa
                         name,
                         fault: *fault,
                         limit: limit_of(rt.alloc(), words, name),
-                        reason: reason_of(rt, name),
+                        reason,
                     },
                 );
             }

@@ -5,14 +5,54 @@ use folder_io::{FolderMem, FolderSure, SinkMem, SinkSure};
 use std::alloc::{AllocError, Global};
 use std::test::Fail;
 
-const TRIANGLE: &str =
-    "splinecurves2dv2\n1\npoints\n1 0 0\n2 1 0\n3 0 1\nsegments\n1 0 2 1 2\n1 0 2 2 3\n1 0 2 3 1\n";
+const TRIANGLE: &str = "splinecurves2dv2
+1
+points
+1 0 0
+2 1 0
+3 0 1
+segments
+1 0 2 1 2
+1 0 2 2 3
+1 0 2 3 1
+";
 
-const LOG: &str =
-    "netmeshlog 1\nrun 4 2097152 300 10 -\ndomain 1 3 3 0 3 stuck\np 0 0\np 640000 0\np 0 640000\nl 1 2\nl 2 3\nl 3 1\nf 1 1 2\nf 2 2 3\nf 3 3 1\nend\n";
+const LOG: &str = "netmeshlog 1
+run 4 2097152 300 10 -
+domain 1 3 3 0 3 stuck
+p 0 0
+p 640000 0
+p 0 640000
+l 1 2
+l 2 3
+l 3 1
+f 1 1 2
+f 2 2 3
+f 3 3 1
+end
+";
 
-const MESH: &str =
-    "mesh3d\ndimension\n2\ngeomtype\n0\nsurfaceelements\n0\nvolumeelements\n0\nedgesegmentsgi2\n3\n1 0 1 2 0 0 1 0 1 0 1 0\n2 0 2 3 0 0 1 0 2 0 2 0\n3 0 3 1 0 0 1 0 3 0 3 0\npoints\n3\n0.0000000000 0.0000000000 0\n1.0000000000 0.0000000000 0\n0.0000000000 1.0000000000 0\nendmesh\n";
+const MESH: &str = "mesh3d
+dimension
+2
+geomtype
+0
+surfaceelements
+0
+volumeelements
+0
+edgesegmentsgi2
+3
+1 0 1 2 0 0 1 0 1 0 1 0
+2 0 2 3 0 0 1 0 2 0 2 0
+3 0 3 1 0 0 1 0 3 0 3 0
+points
+3
+0.0000000000 0.0000000000 0
+1.0000000000 0.0000000000 0
+0.0000000000 1.0000000000 0
+endmesh
+";
 
 const LINE: &str = "stuck domains 1 applications 0 points 3 elements 0 front 3\n";
 
@@ -123,26 +163,5 @@ fn an_answer_that_is_not_taken_leaves_what_was_put(rt: HostRuntime) -> Result<()
     assert_eq!(rt; outcome.status(), 6);
     assert_eq!(rt; held.get("l"), Some(LOG.as_bytes()));
     assert_eq!(rt; held.get("m"), Some(MESH.as_bytes()));
-    Ok(())
-}
-
-#[test]
-fn a_file_of_the_limit_is_taken_and_no_longer_one(rt: HostRuntime) -> Result<(), Fail> {
-    let alloc = rt.alloc();
-    let words = mesh_words(alloc)?;
-    let names = [text(alloc, "g")?];
-    let spaces = vec![in alloc; b' '; 1_048_576]?;
-    let mut held = FolderMem::holding(alloc, &names, &[spaces], &[])?;
-    let mut out = SinkMem::new(alloc, &[])?;
-    let taken = netmesh(&rt, alloc, &words, &mut held, &mut out, &NoGate);
-    let spaces = vec![in alloc; b' '; 1_048_577]?;
-    let mut held = FolderMem::holding(alloc, &names, &[spaces], &[])?;
-    let long = netmesh(&rt, alloc, &words, &mut held, &mut out, &NoGate);
-    assert_eq!(rt; (taken.status(), long.status()), (3, 5));
-    assert_eq!(rt;
-        out.written(),
-        b"refused in2d 1 1\nrefused folder 2 g\n".as_slice()
-    );
-    assert_eq!(rt; held.faults(), 0);
     Ok(())
 }

@@ -1,6 +1,7 @@
 //! Each kind of sentence once, as a person reads it.
-use crate::{File, Reason, Refused, sentence};
+use fault_text::{File, Refused, sentence};
 use std::alloc::{AllocError, Global};
+use std::io::ErrorKind;
 use std::test::Fail;
 
 const PLATE: &[u8] =
@@ -113,7 +114,7 @@ fn what_is_no_printable_sign_is_made_visible(rt: HostRuntime) -> Result<(), Fail
             name: "b\x1b",
             fault: 3,
             limit: 1_048_576,
-            reason: Reason::Unknown,
+            reason: None,
         },
     )?;
     assert_eq!(rt; said.as_str(), "b\\x1b: refused: there is no such file\n");
@@ -160,20 +161,30 @@ fn a_number_and_a_name_at_fault_are_shown(rt: HostRuntime) -> Result<(), Fail> {
     Ok(())
 }
 
-#[test]
-fn the_reason_of_the_system_is_added(rt: HostRuntime) -> Result<(), Fail> {
-    let said = sentence(
-        rt.alloc(),
+/// What is said of a file that failed for this reason.
+fn said_of_folder(alloc: Global, reason: ErrorKind) -> Result<String, AllocError> {
+    sentence(
+        alloc,
         &Refused::Folder {
             name: "m",
             fault: 1,
             limit: 1_048_576,
-            reason: Reason::IsFolder,
+            reason: Some(reason),
         },
-    )?;
+    )
+}
+
+#[test]
+fn the_reason_of_the_system_is_added(rt: HostRuntime) -> Result<(), Fail> {
+    let said = said_of_folder(rt.alloc(), ErrorKind::StorageFull)?;
     assert_eq!(rt;
         said.as_str(),
-        "m: refused: the file can't be read or written: it is a folder\n"
+        "m: refused: the file can't be read or written: the disk is full\n"
+    );
+    let said = said_of_folder(rt.alloc(), ErrorKind::QuotaExceeded)?;
+    assert_eq!(rt;
+        said.as_str(),
+        "m: refused: the file can't be read or written: quota exceeded\n"
     );
     Ok(())
 }

@@ -1,6 +1,5 @@
 //! The words of calls, as values. The lines of `examples/words` show what is refused.
-use crate::command::{Command, MeshOptions, read_words};
-use crate::{WordsFault, first_at_fault, first_misfit};
+use call_words::{Command, MeshOptions, WordsFault, first_at_fault, first_misfit, read_words};
 use std::alloc::{AllocError, Global};
 use std::test::Fail;
 use word_scan::Dec;
