@@ -65,3 +65,7 @@ pub mod Noted
 -- Reaches: reaches by class.
 pub mod Reaches
 pub mod StillRemembered
+-- Dues: what is due of a front.
+pub mod Dues
+-- WholeReaches: what meets a region meets the whole reach of its line.
+pub mod WholeReaches
