@@ -3,6 +3,7 @@ use Rattle.rule_match.specs.declared.application.Application.{Application}
 use Rattle.mesh_run.specs.declared.run.Run.TheInside.{Inside}
 use Rattle.mesh_run.specs.Steps.{IsNext}
 use Rattle.mesh_run.specs.RunState.{RunState, RunParts, setting_by, run_of, run_after, area_left}
+use Rattle.mesh_run.specs.Trials.{RunView}
 use Rattle.mesh_run.proofs.GoesOn.{IsPushed, may_be_put, put_run, some_elements, area_falls}
 use Rattle.mesh_run.proofs.StillRemembered.{remembers_after}
 use Rattle.mesh_run.proofs.run.Run.apply.Goals as goal
@@ -23,14 +24,14 @@ parts r = record {
 pub put-requires-clause-may : goal.put-requires-clause-may
 put-requires-clause-may c =
     let r = c.self.inside in let reserved = c.reserve-2.ensures in
-    let next = subst (λ (s : RunState). IsNext (setting_by s.basis) s.state c.args.application) (sym c.self.view_is) c.requires.next in
+    let next = subst (λ (s : RunState). IsNext (setting_by s.basis) s.state c.args.application) (sym (ap (λ (v : RunView). v.run) c.self.view_is)) c.requires.next in
     may_be_put r.sizes r.rules.now (run_of (parts r)).state c.reserve-2.new.self c.args.application c.get.result.now c.lines-lines.ensures.holds
     (record { points = sym reserved.points; front = sym reserved.lines }) c.rule-rule.ensures.rule c.get.ensures next.best
 
 pub forget_near-requires : goal.forget_near-requires
 forget_near-requires c =
     let r = c.self.inside in let reserved = c.reserve-2.ensures in
-    let next = subst (λ (s : RunState). IsNext (setting_by s.basis) s.state c.args.application) (sym c.self.view_is) c.requires.next in
+    let next = subst (λ (s : RunState). IsNext (setting_by s.basis) s.state c.args.application) (sym (ap (λ (v : RunView). v.run) c.self.view_is)) c.requires.next in
     (may_be_put r.sizes r.rules.now (run_of (parts r)).state c.reserve-2.new.self c.args.application c.get.result.now c.lines-lines.ensures.holds
     (record { points = sym reserved.points; front = sym reserved.lines }) c.rule-rule.ensures.rule c.get.ensures next.best).listed
 
@@ -44,7 +45,7 @@ pushed c = record {
 pub invariant_of-self-2 : goal.invariant_of-self-2
 invariant_of-self-2 c =
     let r = c.self.inside in let reserved = c.reserve-2.ensures in
-    let next = subst (λ (s : RunState). IsNext (setting_by s.basis) s.state c.args.application) (sym c.self.view_is) c.requires.next in
+    let next = subst (λ (s : RunState). IsNext (setting_by s.basis) s.state c.args.application) (sym (ap (λ (v : RunView). v.run) c.self.view_is)) c.requires.next in
     let may = may_be_put r.sizes r.rules.now (run_of (parts r)).state c.reserve-2.new.self c.args.application c.get.result.now c.lines-lines.ensures.holds
     (record { points = sym reserved.points; front = sym reserved.lines }) c.rule-rule.ensures.rule c.get.ensures next.best in
     remembers_after (parts r) c.args.application c.reserve-2.new.self c.put.new.front c.push_reserved.new.self.items r.refusals c.forget_near.new.refusals r.work c.forget_near.new.work c.put.new.work c.self.invariant next c.lines-lines.ensures.holds may (pushed c) c.forget_near.ensures.forgotten c.forget_near.ensures.again c.put.ensures.tried
@@ -52,14 +53,14 @@ invariant_of-self-2 c =
 pub returns-clause-applied : goal.returns-clause-applied
 returns-clause-applied c =
     put_run (parts c.self.inside) c.args.application c.reserve-2.new.self c.put.new.front c.push_reserved.new.self.items c.self.invariant.is_run.grows (pushed c)
-    ∙ ap (λ (s : RunState). run_after s c.args.application) c.self.view_is
+    ∙ ap (λ (s : RunState). run_after s c.args.application) (ap (λ (v : RunView). v.run) c.self.view_is)
 
 pub returns-clause-falls : goal.returns-clause-falls
 returns-clause-falls c =
     let r = c.self.inside in let reserved = c.reserve-2.ensures in
-    let next = subst (λ (s : RunState). IsNext (setting_by s.basis) s.state c.args.application) (sym c.self.view_is) c.requires.next in
+    let next = subst (λ (s : RunState). IsNext (setting_by s.basis) s.state c.args.application) (sym (ap (λ (v : RunView). v.run) c.self.view_is)) c.requires.next in
     let may = may_be_put r.sizes r.rules.now (run_of (parts r)).state c.reserve-2.new.self c.args.application c.get.result.now c.lines-lines.ensures.holds
     (record { points = sym reserved.points; front = sym reserved.lines }) c.rule-rule.ensures.rule c.get.ensures next.best in
-    subst (λ (s : RunState). area_left (run_of (record (parts r) { front = c.put.new.front; applications = c.push_reserved.new.self.items })) < area_left s) c.self.view_is
+    subst (λ (s : RunState). area_left (run_of (record (parts r) { front = c.put.new.front; applications = c.push_reserved.new.self.items })) < area_left s) (ap (λ (v : RunView). v.run) c.self.view_is)
     (area_falls (parts r) c.args.application c.reserve-2.new.self c.put.new.front c.push_reserved.new.self.items c.lines-lines.ensures.holds (pushed c) may
     (some_elements r.sizes r.rules.now (run_of (parts r)).state c.args.application next.best))
