@@ -32,7 +32,7 @@ use Rattle.mesh_run.specs.RunState.{RunParts, run_of, setting_by}
 use Rattle.mesh_run.specs.Steps.{RunSetting, IsNext, applied, with_points}
 use Rattle.mesh_run.proofs.GoesOn.{IsPushed, of_front, put_holds}
 use Rattle.mesh_run.proofs.HeldAreas.{Holds}
-use Rattle.mesh_run.proofs.Numbers.{point_kept}
+use Rattle.mesh_run.proofs.Numbers.{AreJoined, point_kept}
 use Rattle.mesh_run.proofs.Searched.{same_true}
 use Rattle.mesh_run.proofs.StillNone.{Triple, IsOldOrNew, all_old, below_next, contained, elements_on, next_rises, still_none, stays_same}
 
@@ -81,6 +81,16 @@ moved_box sizes points later n from to box e g h = record {
   below = h.below;
   above = h.above;
 }
+
+-- the ends of a line of before are where they were
+pub kept_place : (st : State) (a : Application) (line : Triple) → AreJoined st.points st.front → Contains st.front line
+    → (point_at (applied st a).points line.1 ≡ point_at st.points line.1) × (point_at (applied st a).points line.2 ≡ point_at st.points line.2)
+kept_place st a line joined c =
+    let listed = contained (λ other. IsListed (length st.points) other.1 × IsListed (length st.points) other.2) st.front line joined c in
+    (place line.1 listed.0, place line.2 listed.1)
+  where
+    place : (n : ℕ) → IsListed (length st.points) n → point_at (applied st a).points n ≡ point_at st.points n
+    place n l = ap (λ (ps : List Point). point_at ps n) (same_points (with_points st a.made) a.elements) ∙ point_kept st.points a.made n l
 
 -- a box that doesn't meet an area is apart from it
 missed_apart : (area : Bounds) (e : Entry Region) → is_hit area e ≡ false → AreBoxesApart e.bounds.lo e.bounds.hi area.lo area.hi
@@ -179,22 +189,13 @@ module _ (s : RunSetting) (b : List Edge) (st : State) (a : Application) (before
           (subst (λ (n : ℕ). HasNone s.sizes (applied st a) s.rules n class) o.same_line now).none t o c
       by t o (inr k) c = clash line st.next (was_given line (some class (slice_index_or after.least.items line 0) l)) (subst (λ (n : ℕ). st.next ≤ n) o.same_line k)
 
-  -- the ends of an old line are where they were
-  kept_place : (line : Triple) → Contains st.front line → (point_at (applied st a).points line.1 ≡ point_at st.points line.1) × (point_at (applied st a).points line.2 ≡ point_at st.points line.2)
-  kept_place line c =
-      let listed = contained (λ other. IsListed (length st.points) other.1 × IsListed (length st.points) other.2) st.front line r.numbered.lines_listed c in
-      (place line.1 listed.0, place line.2 listed.1)
-    where
-      place : (n : ℕ) → IsListed (length st.points) n → point_at (applied st a).points n ≡ point_at st.points n
-      place n l = ap (λ (ps : List Point). point_at ps n) (same_points (with_points st a.made) a.elements) ∙ point_kept st.points a.made n l
-
   -- and the region is one in the later state
   has_after : (line : Triple) (class : ℕ) → Contains (applied st a).front line → 1 ≤ class → class < slice_index_or after.least.items line.0 0 → HasRegion after s.sizes (applied st a).points line class
   has_after line class c first l = by (old_or_new line c)
     where
       by : Contains st.front line ⊎ (st.next ≤ line.0) → HasRegion after s.sizes (applied st a).points line class
       by (inl k) =
-          let places = kept_place line k in
+          let places = kept_place st a line r.numbered.lines_listed k in
           let i = missed line class k first l in
           record {
             entry = i.entry;
@@ -222,7 +223,7 @@ module _ (s : RunSetting) (b : List Edge) (st : State) (a : Application) (before
 
       by : (line : Triple) → line.0 ≡ e.value.line → Contains st.front line ⊎ (st.next ≤ line.0) → IsReachOfLine after.reaches.items s.sizes (applied st a).points line e.bounds
       by line same (inl k) =
-          let places = kept_place line k in let i = was.box line k same in
+          let places = kept_place st a line r.numbered.lines_listed k in let i = was.box line k same in
           subst (λ (ns : List ℕ). IsReachOfLine ns s.sizes (applied st a).points line e.bounds) (sym f.reaches) (record {
             class = i.class;
             tried = i.tried;
