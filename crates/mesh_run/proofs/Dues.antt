@@ -93,11 +93,11 @@ left_out f g lines line h c zero_there = at lines h c.0 c.1 c.2
 
 -- ---- what is due after an application
 module _ (last : ℕ) (before after : List ℕ) (st : State) (a : Application) (base : Triple) (q : Triple → Bool) where
-  is_new : Triple → Bool
+  abbrev pub is_new : Triple → Bool
   is_new line = not (nat_lt line.0 st.next)
 
   -- what was due of a line that was there and isn't the base line
-  pub as_before : Triple → ℕ
+  abbrev pub as_before : Triple → ℕ
   as_before line = cond (nat_lt line.0 st.next && not (nat_eq line.0 base.0)) (due_at last before line) 0
 
   none_new : (line : Triple) → st.next ≤ line.0 → as_before line ≡ 0

@@ -69,3 +69,7 @@ pub mod StillRemembered
 pub mod Dues
 -- WholeReaches: what meets a region meets the whole reach of its line.
 pub mod WholeReaches
+-- Paid: what an application pays for.
+pub mod Paid
+-- Changed: lines that join or are touched, counted.
+pub mod Changed

@@ -11,7 +11,7 @@
 -- IsChanged             how many lines join by an application or are touched; AreChanged, over applications one after another
 -- IsPaid                trials and what is due, over one application; DoesPay, over a step; DoesPayAll, over a run
 use Rattle.std.specs.Prelude.{ℕ, ◌≡◌, ◌+◌, ◌-◌, ◌*◌, ◌≤◌, Bool, not, nat_lt, List, [], ◌∷◌, ◌++◌, length, filter, sum}
-use Rattle.std.specs.List.{All, AllByRecursion}
+use Rattle.std.specs.List.{AllByRecursion}
 use Rattle.grid_geom.specs.declared.Bounds.{Bounds}
 use Rattle.grid_geom.specs.Boxes.{DoBoundsMeet}
 use Rattle.rule_reader.specs.declared.rule.Rule.{Rule}
@@ -26,7 +26,7 @@ use Rattle.mesh_run.specs.declared.stepped.Stepped.{Stepped}
 use Rattle.mesh_run.specs.declared.stepped.Stepped.TheVariants.{Applied, Done, Stuck}
 use Rattle.mesh_run.specs.Steps.{RunSetting, applied}
 use Rattle.mesh_run.specs.RunState.{RunState, setting_by}
-use Rattle.mesh_run.specs.Remembered.{IsInArea, IsWider}
+use Rattle.mesh_run.specs.Remembered.{HoldsCorners, IsWider}
 use Rattle.mesh_run.specs.Worklist.{least_open}
 
 -- ---- what is still to be tried
@@ -50,15 +50,11 @@ pub record IsReachOfAll (rules : List Rule) (n : ℕ) : Type 0 where
   pub least : 13 ≤ n
   pub live : AllByRecursion (λ r. IsLive r → Covers r n) rules
 
--- the box holds the corners of the application's elements
-abbrev pub HoldsCorners : State → Application → Bounds → Type 0
-HoldsCorners st a box =
-    All (λ ns. All (λ n. IsInArea box (point_at (st.points ++ a.made) n)) ns) a.elements
-
--- it is the closed box of these corners: it holds them, and each box that does holds it
+-- it is the closed box of the corners of the application's elements: it holds them, and each box that does holds it
 pub record IsCornerBox (st : State) (a : Application) (box : Bounds) : Type 0 where
-  pub holds : HoldsCorners st a box
-  pub least : (other : Bounds) → HoldsCorners st a other → IsWider box other
+  pub holds : HoldsCorners (st.points ++ a.made) a.elements box
+  pub least : (other : Bounds) → HoldsCorners (st.points ++ a.made) a.elements other
+      → IsWider box other
 
 -- the box of the line's start, widened for rules that n covers
 abbrev pub whole_reach : ℕ → LocalFrame → Bounds

@@ -1,8 +1,10 @@
 // What a run remembers of lines that have no candidate.
 ghost use Rattle.std.specs.Prelude.{ℕ, ◌≡◌, ◌+◌, ◌-◌, ◌<◌, ◌≤◌, Some, length, slice_index_or, IsSome, IsTrue, IfOk, OnOk};
+ghost use Rattle.std.specs.List.{Contains};
+ghost use Rattle.digital_tree.specs.declared.Entry.{Entry};
 ghost use Rattle.front_chain.specs.Front.{line_at};
 ghost use Rattle.rule_match.specs.Least.{HasNone};
-ghost use Rattle.mesh_run.specs.Remembered.{AreCovering, AreSameRefusals, AreStill, AreTrue, HasRegion, IsEmpty, IsNoted, setting_in, state_in};
+ghost use Rattle.mesh_run.specs.Remembered.{AreCovering, AreSameRefusals, AreStill, AreTrue, HasRegion, IsEmpty, IsNoted, IsOfLine, setting_in, state_in};
 ghost use Rattle.mesh_run.specs.Worklist.{least_open};
 
 use super::search::Scene;
@@ -33,7 +35,7 @@ pub struct Refusals {
 /// A run tries classes up to this one at most.
 const LAST_CLASS: u32 = 16;
 
-/// By class, how far the rules reach up to it.
+/// By class, how far the rules reach up to it: no farther than at all classes.
 pub fn reaches_of(alloc: Global, rules: &RuleSet<'_>) -> Result<Vec<u64>, OutOfMemory>
     ensures { IfOk result (λ reaches. AreCovering rules.now reaches.items) }
 {
@@ -118,11 +120,14 @@ fn hold(
     ensures least { refusals.new.least.items ≡ refusals.old.least.items }
     ensures reaches { refusals.new.reaches.items ≡ refusals.old.reaches.items }
     ensures stay { AreStill refusals.old.regions.entries refusals.new.regions.entries }
+    ensures own { (e : Entry Region) → Contains refusals.new.regions.entries e →
+        IsOfLine refusals.new.reaches.items scene.now.sizes.now (state_in scene.now) e }
     ensures held { OnOk result ((ends : ℕ × ℕ) →
         line_at scene.now.front.now.lines line ≡ Some ends →
         HasRegion refusals.new scene.now.sizes.now scene.now.front.now.points
         (line, ends.0, ends.1) class) }
 {
+    let _lines = scene.front.lines();
     if is_no_farther(refusals, class) {
         return Ok(());
     }

@@ -14,7 +14,7 @@ use super::left::{points_of, rows_of};
 use super::opening::{number_mesh, opening_of};
 use super::refusals::{Refusals, no_refusals, reaches_of};
 use super::search::{Scene, find_next};
-use super::touched::forget_near;
+use super::touched::{forget_all, hits_near};
 use super::worklist::Worklist;
 use super::{Application, Applications, DomainRun, End, FrontRows, OpeningLines, Options, Stepped};
 use front_chain::Front;
@@ -197,13 +197,8 @@ impl<'a> Run<'a> {
         // the front is as a front is, and the rule one that a reader gives: so the application may be put on it
         let _lines = self.front.lines();
         let _rule = self.rules.get(application.rule).rule();
-        forget_near(
-            alloc,
-            &mut self.refusals,
-            &mut self.work,
-            &self.front,
-            &application,
-        );
+        let hits = hits_near(alloc, &self.refusals, &self.front, &application)?;
+        forget_all(&mut self.refusals, &mut self.work, hits.as_slice());
         put(&mut self.front, &mut self.work, &application);
         self.applications.push_reserved(application);
         Ok(copy)
