@@ -73,3 +73,5 @@ pub mod WholeReaches
 pub mod Paid
 -- Changed: lines that join or are touched, counted.
 pub mod Changed
+-- TrialsMade: trials made, and what is due, over a run.
+pub mod TrialsMade
