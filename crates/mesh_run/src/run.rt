@@ -1,5 +1,5 @@
 // The run of a domain by rules.
-ghost use Rattle.std.specs.Prelude.{◌≡◌, ◌<◌, ◌↔◌, length, IsTrue, IfOk, IfSome, IfNone, OnOk, OnErr};
+ghost use Rattle.std.specs.Prelude.{◌≡◌, ◌+◌, ◌<◌, ◌↔◌, length, IsTrue, IfOk, IfSome, IfNone, OnOk, OnErr};
 ghost use Rattle.std.specs.List.{Contains};
 ghost use Rattle.geom_check.specs.Domains.{domain_numbers};
 ghost use Rattle.mesh_run.specs.Mesh.{NamesItsPoints};
@@ -7,6 +7,7 @@ ghost use Rattle.mesh_run.specs.Opening.{mesh_points};
 ghost use Rattle.mesh_run.specs.Remembered.{AreCovering};
 ghost use Rattle.mesh_run.specs.Runs.{pieces_by};
 ghost use Rattle.mesh_run.specs.Steps.{IsNext, NothingApplies, IsSpent};
+ghost use Rattle.mesh_run.specs.Trials.{IsPaid};
 
 use super::applying::{copy_of, put};
 use super::ground::Ground;
@@ -21,6 +22,7 @@ use front_chain::Front;
 use geom_check::Geometry;
 use grid_geom::Points;
 use rule_maps::RuleSet;
+use rule_match::reach_box;
 use size_field::{Pieces, Sizes, sizes_of};
 use std::alloc::{AllocError as OutOfMemory, Global};
 use std::marker::Model;
@@ -28,7 +30,8 @@ use std::sync::ledger::Ledger;
 use steps::Steps;
 
 /// The run of a domain by rules, as far as it has come. It is seen as its basis, its applications so
-/// far, and the state that these have come to, which is that of the definition.
+/// far, and the state that these have come to, which is that of the definition; and beside them as the
+/// number of trials that are due: pairs of a front line and a class at which it isn't known to be refused.
 #[derive(Drop)]
 pub struct Run<'a> {
     domain: u32,
@@ -46,21 +49,25 @@ pub struct Run<'a> {
 }
 
 impl<'a> Model for Run<'a> {
-    ghost use Rattle.mesh_run.specs.RunState.{RunState, run_of};
+    ghost use Rattle.mesh_run.specs.RunState.{run_of};
     ghost use Rattle.mesh_run.specs.Remembered.{DoesRemember};
+    ghost use Rattle.mesh_run.specs.Trials.{RunView, due};
 
-    ghost Value = { RunState };
+    ghost Value = { RunView };
 
-    ghost view = { λ r. run_of (record {
-      domain = r.domain;
-      options = r.options;
-      sizes = r.sizes;
-      rules = r.rules.now;
-      opened = r.opened;
-      lines = r.lines;
-      front = r.front;
-      applications = r.applications.items;
-    }) };
+    ghost view = { λ r. record {
+      run = run_of (record {
+        domain = r.domain;
+        options = r.options;
+        sizes = r.sizes;
+        rules = r.rules.now;
+        opened = r.opened;
+        lines = r.lines;
+        front = r.front;
+        applications = r.applications.items;
+      });
+      due = due r.options.last r.refusals.least.items r.front.lines;
+    } };
 
     ghost invariant = { λ r. DoesRemember (run_of (record {
       domain = r.domain;
@@ -89,7 +96,7 @@ impl<'a> Run<'a> {
             ≡ pieces_by ground.now.geometry.now ground.now.options.now }
         requires mesh { ground.now.mesh.now ≡ mesh_points ground.now.pieces.now }
         requires reaches { AreCovering ground.now.rules.now ground.now.reaches.now }
-        ensures { IfOk result (λ run. run ≡ opened_run ground.now.geometry.now ground.now.rules.now
+        ensures { IfOk result (λ run. run.run ≡ opened_run ground.now.geometry.now ground.now.rules.now
             ground.now.options.now domain) }
     {
         let geometry = ground.geometry;
@@ -137,7 +144,7 @@ impl<'a> Run<'a> {
         requires domain { Contains (domain_numbers geometry.now.segments) domain }
         requires options { AreOptions options.now }
         requires pieces { pieces.now ≡ pieces_by geometry.now options.now }
-        ensures { IfOk result (λ run. run
+        ensures { IfOk result (λ run. run.run
             ≡ opened_run geometry.now rules.now options.now domain) }
     {
         let mesh = number_mesh(alloc, pieces.as_slice())?.points(alloc)?;
@@ -161,10 +168,10 @@ impl<'a> Run<'a> {
         steps: &mut Steps<L>,
     ) -> Result<Option<Application>, OutOfMemory>
         ensures next { IfOk result
-            (λ found. IfSome found (IsNext (setting_by self.old.basis) self.old.state)) }
+            (λ found. IfSome found (IsNext (setting_by self.old.run.basis) self.old.run.state)) }
         ensures none { IfOk result
-            (λ found. IfNone found (NothingApplies (setting_by self.old.basis) self.old.state)) }
-        ensures stands { self.new ≡ self.old }
+            (λ found. IfNone found (NothingApplies (setting_by self.old.run.basis) self.old.run.state)) }
+        ensures stands { self.new.run ≡ self.old.run }
     {
         let scene = Scene {
             front: &self.front,
@@ -178,20 +185,24 @@ impl<'a> Run<'a> {
     /// Makes the application that comes next, and answers a copy of it. All memory that it
     /// can't do without is taken before the run changes.
     fn apply(&mut self, alloc: Global, application: Application) -> Result<Application, OutOfMemory>
-        requires next { IsNext (setting_by self.old.basis) self.old.state application }
-        ensures applied { OnOk result (self.new ≡ run_after self.old application) }
+        requires next { IsNext (setting_by self.old.run.basis) self.old.run.state application }
+        ensures applied { OnOk result (self.new.run ≡ run_after self.old.run application) }
         ensures copied { IfOk result (λ a. a ≡ application) }
-        ensures falls { OnOk result (area_left self.new < area_left self.old) }
-        ensures stands { OnErr result (self.new ≡ self.old) }
+        ensures falls { OnOk result (area_left self.new.run < area_left self.old.run) }
+        ensures pays { OnOk result (IsPaid (setting_by self.old.run.basis) self.old.run.state
+            application self.old.due (self.new.due + 1)) }
+        ensures stands { OnErr result (self.new.run ≡ self.old.run) }
     {
         let copy = copy_of(alloc, &application)?;
         self.applications.reserve(1)?;
         let made = application.made.as_slice().len();
         let elements = application.elements.as_slice().len();
         self.front.reserve(made, elements)?;
-        // the front is as a front is, and the rule one that a reader gives: so the application may be put on it
+        // the front is as a front is, the rule one that a reader gives, and the base line has a frame: so the
+        // application may be put on it, and it touches the base line
         let _lines = self.front.lines();
         let _rule = self.rules.get(application.rule).rule();
+        let _reach = reach_box(&self.front, &self.sizes, application.line, 0);
         let hits = hits_near(alloc, &self.refusals, &self.front, &application)?;
         forget_all(&mut self.refusals, &mut self.work, hits.as_slice());
         put(&mut self.front, &mut self.work, &application);
@@ -208,9 +219,9 @@ impl<'a> Run<'a> {
         alloc: Global,
         steps: &mut Steps<L>,
     ) -> Result<Stepped, OutOfMemory>
-        ensures stepped { IfOk result (IsStepped self.old self.new) }
-        ensures falls { IfOk result (DoesTakeArea self.old self.new) }
-        ensures stands { OnErr result (self.new ≡ self.old) }
+        ensures stepped { IfOk result (IsStepped self.old.run self.new.run) }
+        ensures falls { IfOk result (DoesTakeArea self.old.run self.new.run) }
+        ensures stands { OnErr result (self.new.run ≡ self.old.run) }
     {
         if self.front.lines() == 0 {
             return Ok(Stepped::Done);
@@ -223,8 +234,8 @@ impl<'a> Run<'a> {
 
     /// Whether as many applications were made as are allowed.
     fn is_spent(&self) -> bool
-        ensures { IsTrue result ↔ IsSpent self.now.basis.options.limit
-            (length self.now.applications) }
+        ensures { IsTrue result ↔ IsSpent self.now.run.basis.options.limit
+            (length self.now.run.applications) }
     {
         match self.options.limit {
             Some(limit) => limit <= self.applications.len() as u64,
@@ -238,9 +249,9 @@ impl<'a> Run<'a> {
         alloc: Global,
         steps: &mut Steps<L>,
     ) -> Result<End, OutOfMemory>
-        requires { IsSpent self.old.basis.options.limit (length self.old.applications) }
-        ensures ended { IfOk result (IsEndOfRun self.old) }
-        ensures stands { self.new ≡ self.old }
+        requires { IsSpent self.old.run.basis.options.limit (length self.old.run.applications) }
+        ensures ended { IfOk result (IsEndOfRun self.old.run) }
+        ensures stands { self.new.run ≡ self.old.run }
     {
         if self.front.lines() == 0 {
             return Ok(End::Done);
@@ -260,8 +271,8 @@ impl<'a> Run<'a> {
         alloc: Global,
         steps: &mut Steps<L>,
     ) -> Result<End, OutOfMemory>
-        ensures goes_on { GoesOn self.old self.new }
-        ensures ended { IfOk result (IsEndOfRun self.new) }
+        ensures goes_on { GoesOn self.old.run self.new.run }
+        ensures ended { IfOk result (IsEndOfRun self.new.run) }
     {
         while !self.is_spent() {
             match self.step(alloc, steps)? {
@@ -275,8 +286,8 @@ impl<'a> Run<'a> {
 
     /// What is kept of the run, with its end.
     pub fn into_domain_run(self, alloc: Global, end: End) -> Result<DomainRun, OutOfMemory>
-        ensures run { IfOk result (λ run. run ≡ domain_run self.entry end) }
-        ensures names { OnOk result (NamesItsPoints (domain_run self.entry end)) }
+        ensures run { IfOk result (λ run. run ≡ domain_run self.entry.run end) }
+        ensures names { OnOk result (NamesItsPoints (domain_run self.entry.run end)) }
     {
         let points = points_of(alloc, &self.front)?;
         let front = rows_of(alloc, &self.front)?;
