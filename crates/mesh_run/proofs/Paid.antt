@@ -1,7 +1,7 @@
 -- What an application pays for: the pairs that are due after it, by the lines that join and those that it touches, and the trial that found it, by its base line.
-use Rattle.std.proofs.Common.{◌≡◌, ℕ, zero, suc, ◌+◌, ◌-◌, ◌*◌, ◌<◌, ◌≤◌, ◌⊎◌, inl, inr, max, Bool, true, false, ◌&&◌, ◌||◌, not, nat_eq, nat_lt, cond, filter, All, Contains, List, [], ◌∷◌, ◌++◌, length, map, slice_get, slice_index_or, refl, sym, ap, ◌∙◌, subst, arith, pos, Some}
+use Rattle.std.proofs.Common.{◌≡◌, ℕ, zero, suc, ◌+◌, ◌-◌, ◌*◌, ◌<◌, ◌≤◌, ◌⊎◌, inl, inr, max, Bool, true, false, ◌&&◌, ◌||◌, not, nat_eq, nat_lt, cond, filter, All, Contains, List, [], ◌∷◌, ◌++◌, length, map, slice_get, slice_index_or, refl, sym, ap, ◌∙◌, subst, arith, pos, Some, is_some}
 use Rattle.std.specs.List.{AllByRecursion}
-use Rattle.std.proofs.lemmas.List.Elements.{All-contains, All-contains_itself, All-filter, All-from_recursion, All-weaker, filter_passes, recursion_from_All}
+use Rattle.std.proofs.lemmas.List.Elements.{All-append, All-contains, All-contains_itself, All-filter, All-from_recursion, All-weaker, filter_passes, recursion_from_All}
 use Rattle.grid_geom.specs.declared.Bounds.{Bounds}
 use Rattle.grid_geom.specs.declared.Point.{Point}
 use Rattle.grid_geom.specs.Boxes.{DoBoundsMeet}
@@ -20,9 +20,10 @@ use Rattle.state_law.specs.Reach.{IsWithinReach}
 use Rattle.state_law.specs.Saved.{AreInBox}
 use Rattle.state_law.specs.State.{State, AreRising, IsListed, corners_of, point_at}
 use Rattle.state_law.proofs.Lists.{all_map}
-use Rattle.front_chain.specs.Front.{line_at}
+use Rattle.front_chain.specs.Front.{FrontState, IsFrontState, line_at, state_of}
 use Rattle.rule_match.specs.declared.application.Application.{Application}
 use Rattle.rule_match.specs.Applied.{application}
+use Rattle.rule_match.specs.Best.{IsBest}
 use Rattle.rule_match.specs.Candidate.{Attempt, IsCandidate, IsFrontPoint, elements, made, mapping}
 use Rattle.rule_match.specs.Least.{HasNone, IsOf}
 use Rattle.rule_match.specs.Near.{IsCoveredAt, IsCoveredBy, IsReachBox, reach_hi, reach_lo, whole_grid}
@@ -34,10 +35,12 @@ use Rattle.rule_match.proofs.WithinReach.{within_reach}
 use Rattle.mesh_run.specs.declared.refusals.Refusals.{Refusals}
 use Rattle.mesh_run.specs.declared.refusals.Region.{Region}
 use Rattle.mesh_run.specs.Remembered.{AreTrue, HasEntryOf, IsForgottenNear, IsInArea}
+use Rattle.mesh_run.specs.Reached.{MayBeApplied}
+use Rattle.mesh_run.specs.RunState.{RunParts, RunState, run_of, setting_by}
 use Rattle.mesh_run.specs.Steps.{RunSetting, IsNext, applied, with_points}
 use Rattle.mesh_run.specs.Trials.{IsCornerBox, IsPaid, IsReachOfAll, IsTouched, due, due_at, joined, whole_reach}
 use Rattle.mesh_run.proofs.Dues.{as_before, is_new, paid_front}
-use Rattle.mesh_run.proofs.GoesOn.{some_elements}
+use Rattle.mesh_run.proofs.GoesOn.{IsPushed, put_run, some_elements}
 use Rattle.mesh_run.proofs.HeldAreas.{chained}
 use Rattle.mesh_run.proofs.Numbers.{AreJoined, AreListed}
 use Rattle.mesh_run.proofs.Steps.{AreTriangles, named_elements}
@@ -319,3 +322,44 @@ module _ (s : RunSetting) (st : State) (a : Application) (before after : Refusal
 
       spread : (x y j u : ℕ) → x ≤ y + s.last * j + s.last * u → x ≤ y + s.last * (j + u)
       spread x y j u l = let e = times s.last j u in omega (arith, l, e)
+
+-- ---- what a run pays for
+-- the base line of an application that comes next is on the front
+pub base_there : (sizes : SizeField) (rules : List Rule) (st : State) (f : FrontState) (a : Application) → IsFrontState f → f.lines ≡ st.front → IsBest sizes st rules a.line a.class a → is_some (line_at f.lines a.line) ≡ true
+base_there sizes rules st f a front same best =
+    let line = best.attempt.line in let c = subst (λ (lines : List Triple). Contains lines line) (sym same) best.least.of.on_front in
+    ap is_some (subst (λ (n : ℕ). line_at f.lines n ≡ Some (line.1, line.2)) best.least.of.same_line (line_numbered f.lines f.next c.0 line line front.rising c.1 c.2))
+
+-- a run with these parts to which an application is put, by way of a front that is the same to it; what it remembers before and after; and the box of the
+-- base line's reach by some number
+pub record IsGoingOn (p : RunParts) (a : Application) (same after : FrontState) (applications : List Application) (before left : Refusals) : Type 0 where
+  pub remembered : AreTrue before (setting_by (run_of p).basis) (run_of p).state
+  pub grows : p.opened ≤ length p.front.points
+  pub next : IsNext (setting_by (run_of p).basis) (run_of p).state a
+  pub front : IsFrontState same
+  pub may : MayBeApplied (state_of same) a
+  pub pushed : IsPushed p a same after applications
+  pub forgotten : IsForgottenNear (same.points ++ a.made) a.elements before left
+  pub reach : ℕ
+  pub box : Bounds
+  pub base : (ends : ℕ × ℕ) → line_at same.lines a.line ≡ Some ends → IsReachBox p.sizes same.points reach ends.0 ends.1 box
+
+pub run_paid : (p : RunParts) (a : Application) (same after : FrontState) (applications : List Application) (before left : Refusals) → IsGoingOn p a same after applications before left
+    → IsPaid (setting_by (run_of p).basis) (run_of p).state a (due p.options.last before.least.items p.front.lines) (due p.options.last left.least.items after.lines + 1)
+run_paid p a same after applications before left h =
+    let s = setting_by (run_of p).basis in let st = (run_of p).state in let equal = h.pushed.equal in
+    let put : IsPutOn s st a before left = record {
+      joined_points = subst (λ (points : List Point). AreJoined points p.front.lines) equal.points (subst (AreJoined same.points) equal.lines h.front.numbered.lines_listed);
+      rising = subst (AreRising p.front.lines) equal.next (subst (λ (lines : List Triple). AreRising lines same.next) equal.lines h.front.rising);
+      on_grid = subst (λ (points : List Point). All IsOnGrid (points ++ a.made)) equal.points (All-append IsOnGrid same.points a.made h.front.on_grid h.may.on_grid);
+      triangles = h.may.triangles;
+      listed = subst (λ (points : List Point). AllByRecursion (AreListed (points ++ a.made)) a.elements) equal.points h.may.listed;
+      next = h.next;
+      reach = h.reach;
+      box = h.box;
+      base = λ ends e. subst (λ (points : List Point). IsReachBox p.sizes points h.reach ends.0 ends.1 h.box) equal.points (h.base ends (subst (λ (lines : List Triple). line_at lines a.line ≡ Some ends) (sym equal.lines) e));
+      remembered = h.remembered;
+      forgotten = subst (λ (points : List Point). IsForgottenNear (points ++ a.made) a.elements before left) equal.points h.forgotten;
+    } in
+    let lines : after.lines ≡ (applied st a).front = ap (λ (r : RunState). r.state.front) (put_run p a same after applications h.grows h.pushed) in
+    subst (λ (later : List Triple). IsPaid s st a (due p.options.last before.least.items p.front.lines) (due p.options.last left.least.items later + 1)) (sym lines) (application_paid s st a before left put)

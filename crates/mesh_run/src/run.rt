@@ -1,5 +1,5 @@
 // The run of a domain by rules.
-ghost use Rattle.std.specs.Prelude.{◌≡◌, ◌<◌, ◌↔◌, length, IsTrue, IfOk, IfSome, IfNone, OnOk, OnErr};
+ghost use Rattle.std.specs.Prelude.{◌≡◌, ◌+◌, ◌<◌, ◌↔◌, length, IsTrue, IfOk, IfSome, IfNone, OnOk, OnErr};
 ghost use Rattle.std.specs.List.{Contains};
 ghost use Rattle.geom_check.specs.Domains.{domain_numbers};
 ghost use Rattle.mesh_run.specs.Mesh.{NamesItsPoints};
@@ -7,6 +7,7 @@ ghost use Rattle.mesh_run.specs.Opening.{mesh_points};
 ghost use Rattle.mesh_run.specs.Remembered.{AreCovering};
 ghost use Rattle.mesh_run.specs.Runs.{pieces_by};
 ghost use Rattle.mesh_run.specs.Steps.{IsNext, NothingApplies, IsSpent};
+ghost use Rattle.mesh_run.specs.Trials.{IsPaid};
 
 use super::applying::{copy_of, put};
 use super::ground::Ground;
@@ -21,6 +22,7 @@ use front_chain::Front;
 use geom_check::Geometry;
 use grid_geom::Points;
 use rule_maps::RuleSet;
+use rule_match::reach_box;
 use size_field::{Pieces, Sizes, sizes_of};
 use std::alloc::{AllocError as OutOfMemory, Global};
 use std::marker::Model;
@@ -187,6 +189,8 @@ impl<'a> Run<'a> {
         ensures applied { OnOk result (self.new.run ≡ run_after self.old.run application) }
         ensures copied { IfOk result (λ a. a ≡ application) }
         ensures falls { OnOk result (area_left self.new.run < area_left self.old.run) }
+        ensures pays { OnOk result (IsPaid (setting_by self.old.run.basis) self.old.run.state
+            application self.old.due (self.new.due + 1)) }
         ensures stands { OnErr result (self.new.run ≡ self.old.run) }
     {
         let copy = copy_of(alloc, &application)?;
@@ -194,9 +198,11 @@ impl<'a> Run<'a> {
         let made = application.made.as_slice().len();
         let elements = application.elements.as_slice().len();
         self.front.reserve(made, elements)?;
-        // the front is as a front is, and the rule one that a reader gives: so the application may be put on it
+        // the front is as a front is, the rule one that a reader gives, and the base line has a frame: so the
+        // application may be put on it, and it touches the base line
         let _lines = self.front.lines();
         let _rule = self.rules.get(application.rule).rule();
+        let _reach = reach_box(&self.front, &self.sizes, application.line, 0);
         let hits = hits_near(alloc, &self.refusals, &self.front, &application)?;
         forget_all(&mut self.refusals, &mut self.work, hits.as_slice());
         put(&mut self.front, &mut self.work, &application);

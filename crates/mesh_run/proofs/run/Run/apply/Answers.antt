@@ -1,4 +1,4 @@
-use Rattle.std.proofs.Common.{List, [], ◌∷◌, ◌++◌, ◌<◌, sym, ap, ◌∙◌, subst}
+use Rattle.std.proofs.Common.{List, [], ◌∷◌, ◌++◌, ◌+◌, ◌<◌, sym, ap, ◌∙◌, subst}
 use Rattle.digital_tree.specs.declared.Entry.{Entry}
 use Rattle.rule_match.specs.declared.application.Application.{Application}
 use Rattle.mesh_run.specs.declared.refusals.Region.{Region}
@@ -7,8 +7,9 @@ use Rattle.mesh_run.proofs.Forgotten.{near_forgotten}
 use Rattle.mesh_run.specs.declared.run.Run.TheInside.{Inside}
 use Rattle.mesh_run.specs.Steps.{IsNext}
 use Rattle.mesh_run.specs.RunState.{RunState, RunParts, setting_by, run_of, run_after, area_left}
-use Rattle.mesh_run.specs.Trials.{RunView}
+use Rattle.mesh_run.specs.Trials.{IsPaid, RunView, due}
 use Rattle.mesh_run.proofs.GoesOn.{IsPushed, may_be_put, put_run, some_elements, area_falls}
+use Rattle.mesh_run.proofs.Paid.{base_there, run_paid}
 use Rattle.mesh_run.proofs.StillRemembered.{remembers_after}
 use Rattle.mesh_run.proofs.run.Run.apply.Goals as goal
 use Rattle.mesh_run.proofs.run.Run.apply.Goals.{After-drop-hits}
@@ -73,3 +74,29 @@ returns-clause-falls c =
     subst (λ (s : RunState). area_left (run_of (record (parts r) { front = c.put.new.front; applications = c.push_reserved.new.self.items })) < area_left s) (ap (λ (v : RunView). v.run) c.self.view_is)
     (area_falls (parts r) c.args.application c.reserve-2.new.self c.put.new.front c.push_reserved.new.self.items c.lines-lines.ensures.holds (pushed c) may
     (some_elements r.sizes r.rules.now (run_of (parts r)).state c.args.application next.best))
+
+pub reach_box-reach-requires : goal.reach_box-reach-requires
+reach_box-reach-requires c =
+    let r = c.self.inside in
+    let next = subst (λ (s : RunState). IsNext (setting_by s.basis) s.state c.args.application) (sym (ap (λ (v : RunView). v.run) c.self.view_is)) c.requires.next in
+    record { on_front = base_there r.sizes r.rules.now (run_of (parts r)).state c.reserve-2.new.self c.args.application c.lines-lines.ensures.holds c.reserve-2.ensures.lines next.best }
+
+pub returns-clause-pays : goal.returns-clause-pays
+returns-clause-pays c =
+    let r = c.self.inside in let reserved = c.reserve-2.ensures in
+    let next = subst (λ (s : RunState). IsNext (setting_by s.basis) s.state c.args.application) (sym (ap (λ (v : RunView). v.run) c.self.view_is)) c.requires.next in
+    let may = may_be_put r.sizes r.rules.now (run_of (parts r)).state c.reserve-2.new.self c.args.application c.get.result.now c.lines-lines.ensures.holds
+    (record { points = sym reserved.points; front = sym reserved.lines }) c.rule-rule.ensures.rule c.get.ensures next.best in
+    subst (λ (v : RunView). IsPaid (setting_by v.run.basis) v.run.state c.args.application v.due (due r.options.last c.forget_all.new.refusals.least.items c.put.new.front.lines + 1)) c.self.view_is
+    (run_paid (parts r) c.args.application c.reserve-2.new.self c.put.new.front c.push_reserved.new.self.items r.refusals c.forget_all.new.refusals (record {
+      remembered = c.self.invariant.remembered;
+      grows = c.self.invariant.is_run.grows;
+      next = next;
+      front = c.lines-lines.ensures.holds;
+      may = may;
+      pushed = pushed c;
+      forgotten = forgotten c;
+      reach = 0;
+      box = c.reach_box-reach.result;
+      base = c.reach_box-reach.ensures;
+    }))
