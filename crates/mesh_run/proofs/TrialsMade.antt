@@ -58,7 +58,7 @@ all_due last n refused (line ∷ lines) e = added (due last refused (numbered_fr
         by : (m : ℕ) → m ≡ 0 → last + 1 - max 1 m ≡ last
         by m z = omega (arith, z)
 
-    added : (d k : ℕ) → last + 1 - max 1 (slice_index_or refused n 0) ≡ last → d ≡ last * k → last + 1 - max 1 (slice_index_or refused n 0) + d ≡ last * (1 + k)
+    added : (d k : ℕ) → last + 1 - max 1 (slice_index_or refused n 0) ≡ last → d ≡ last * k → last + 1 - max 1 (slice_index_or refused n 0) + d ≡ last * suc k
     added d k f g = omega (arith, f, g)
 
 -- ---- a turn that is tried

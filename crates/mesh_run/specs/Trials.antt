@@ -3,6 +3,7 @@
 -- an application gives those of lines that join or that it touches.
 --
 -- due_at, due           the pairs still to be tried, of one line and of a front
+-- due_in                the pairs still to be tried of what is searched
 -- RunView               what contracts see of a run: the run, and what is due
 -- IsReachOfAll          a number is no less than the reach of any live rule
 -- IsCornerBox           the closed box of the corners of an application's elements
@@ -28,6 +29,8 @@ use Rattle.mesh_run.specs.Steps.{RunSetting, applied}
 use Rattle.mesh_run.specs.RunState.{RunState, setting_by}
 use Rattle.mesh_run.specs.Remembered.{HoldsCorners, IsWider}
 use Rattle.mesh_run.specs.Worklist.{least_open}
+use Rattle.mesh_run.specs.declared.refusals.Refusals.{Refusals}
+use Rattle.mesh_run.specs.declared.search.Scene.{Scene}
 
 -- ---- what is still to be tried
 -- the classes at which a line isn't refused: from the least open one to the last
@@ -38,6 +41,10 @@ due_at last refused line = last + 1 - least_open refused line.0
 abbrev pub due : ℕ → List ℕ → List (ℕ × ℕ × ℕ) → ℕ
 due last refused [] = 0
 due last refused (line ∷ front) = due_at last refused line + due last refused front
+
+-- those of the front that is searched, by what is remembered of it
+abbrev pub due_in : Scene → Refusals → ℕ
+due_in s m = due s.last m.least.items s.front.now.lines
 
 -- what contracts see of a run: the run, and how many pairs of a front line and a class are still to be tried
 pub record RunView : Type 0 where

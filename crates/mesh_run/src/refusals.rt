@@ -1,11 +1,12 @@
 // What a run remembers of lines that have no candidate.
-ghost use Rattle.std.specs.Prelude.{ℕ, ◌≡◌, ◌+◌, ◌-◌, ◌<◌, ◌≤◌, Some, length, slice_index_or, IsSome, IsTrue, IfOk, OnOk};
+ghost use Rattle.std.specs.Prelude.{ℕ, ◌≡◌, ◌+◌, ◌-◌, ◌<◌, ◌≤◌, Some, length, slice_index_or, IsSome, IsTrue, IfOk, OnOk, OnErr};
 ghost use Rattle.std.specs.List.{Contains};
 ghost use Rattle.digital_tree.specs.declared.Entry.{Entry};
 ghost use Rattle.front_chain.specs.Front.{line_at};
 ghost use Rattle.rule_match.specs.Least.{HasNone};
 ghost use Rattle.mesh_run.specs.Remembered.{AreCovering, AreSameRefusals, AreStill, AreTrue, HasRegion, IsEmpty, IsNoted, IsOfLine, setting_in, state_in};
-ghost use Rattle.mesh_run.specs.Worklist.{least_open};
+ghost use Rattle.mesh_run.specs.Trials.{due_in};
+ghost use Rattle.mesh_run.specs.Worklist.{IsOpenTurn, least_open};
 
 use super::search::Scene;
 use digital_tree::Tree;
@@ -72,6 +73,7 @@ fn lengthen(table: &mut Vec<u64>, place: u64) -> Result<(), OutOfMemory>
 fn note(table: &mut Vec<u64>, place: u64, number: u64) -> Result<(), OutOfMemory>
     ensures noted { IsNoted table.old.items table.new.items place number }
     ensures there { OnOk result (slice_index_or table.new.items place 0 ≡ number) }
+    ensures same { OnErr result (AreSameRefusals table.old.items table.new.items) }
 {
     lengthen(table, place)?;
     table[place as usize] = number;
@@ -153,6 +155,11 @@ pub fn remember(
     ensures remembered { AreTrue refusals.new (setting_in scene.now) (state_in scene.now) }
     ensures noted { IsNoted refusals.old.least.items refusals.new.least.items line (class + 1) }
     ensures there { OnOk result (slice_index_or refusals.new.least.items line 0 ≡ class + 1) }
+    ensures fewer { OnOk result (IsOpenTurn scene.now.front.now.lines refusals.old.least.items
+        scene.now.last (class, line) →
+        due_in scene.now refusals.new + 1 ≤ due_in scene.now refusals.old) }
+    ensures as_many { OnErr result (due_in scene.now refusals.new
+        ≡ due_in scene.now refusals.old) }
 {
     let _lines = scene.front.lines();
     hold(scene, refusals, class, line)?;
