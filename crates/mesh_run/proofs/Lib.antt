@@ -65,3 +65,13 @@ pub mod Noted
 -- Reaches: reaches by class.
 pub mod Reaches
 pub mod StillRemembered
+-- Dues: what is due of a front.
+pub mod Dues
+-- WholeReaches: what meets a region meets the whole reach of its line.
+pub mod WholeReaches
+-- Paid: what an application pays for.
+pub mod Paid
+-- Changed: lines that join or are touched, counted.
+pub mod Changed
+-- TrialsMade: trials made, and what is due, over a run.
+pub mod TrialsMade

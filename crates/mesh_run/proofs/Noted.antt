@@ -2,6 +2,7 @@
 use Rattle.std.proofs.Common.{◌≡◌, ℕ, ◌+◌, ◌-◌, ◌<◌, ◌≤◌, ◌⊎◌, inl, inr, max, List, slice_index_or, length, sym, ap, ◌∙◌, subst, arith, refl, true, Option, None, Some, is_some, Contains}
 use Rattle.grid_geom.specs.declared.Bounds.{Bounds}
 use Rattle.grid_geom.specs.declared.Point.{Point}
+use Rattle.digital_tree.specs.declared.Entry.{Entry}
 use Rattle.digital_tree.specs.declared.Key.{Key}
 use Rattle.digital_tree.specs.Entries.{IsInserted}
 use Rattle.state_law.specs.State.{State}
@@ -12,7 +13,8 @@ use Rattle.rule_match.specs.Near.{IsReachBox}
 use Rattle.rule_match.proofs.BaseLines.{line_there}
 use Rattle.rule_match.proofs.Gathered.{line_numbered}
 use Rattle.mesh_run.specs.declared.refusals.Refusals.{Refusals}
-use Rattle.mesh_run.specs.Remembered.{AreCovering, AreStill, AreTrue, HasRegion, IsNoted, IsRegion}
+use Rattle.mesh_run.specs.declared.refusals.Region.{Region}
+use Rattle.mesh_run.specs.Remembered.{AreCovering, AreStill, AreTrue, HasRegion, IsNoted, IsOfLine, IsRegion}
 use Rattle.mesh_run.specs.Steps.{RunSetting}
 use Rattle.mesh_run.specs.Worklist.{least_open}
 use Rattle.mesh_run.proofs.Searched.{noted_remembered}
@@ -20,6 +22,14 @@ use Rattle.mesh_run.proofs.Regions.{put_in}
 use Rattle.mesh_run.proofs.StillNone.{below_next}
 
 -- ---- regions
+-- a front line has a number below the next
+on_front : (f : FrontState) (line : ℕ) → IsFrontState f → is_some (line_at f.lines line) ≡ true → line < f.next
+on_front f line front there = here (line_at f.lines line) refl there
+  where
+    here : (o : Option (ℕ × ℕ)) → line_at f.lines line ≡ o → is_some o ≡ true → line < f.next
+    here None e t = absurd (cc)
+    here (Some ends) e t = below_next f.lines f.next (line, ends.0, ends.1) front.rising (line_there f.lines line ends e)
+
 -- a region that a line has stays where each entry does
 still_has : (m after : Refusals) (sizes : SizeField) (points : List Point) (line : ℕ × ℕ × ℕ) (class : ℕ) → after.reaches.items ≡ m.reaches.items → AreStill m.regions.entries after.regions.entries → HasRegion m sizes points line class → HasRegion after sizes points line class
 still_has m after sizes points line class reaches stay h = record {
@@ -29,14 +39,16 @@ still_has m after sizes points line class reaches stay h = record {
 }
 
 -- so what is remembered stays true
-pub still_kept : (s : RunSetting) (st : State) (m after : Refusals) → after.least.items ≡ m.least.items → after.reaches.items ≡ m.reaches.items → AreStill m.regions.entries after.regions.entries → AreTrue m s st → AreTrue after s st
-still_kept s st m after least reaches stay h = record {
+pub still_kept : (s : RunSetting) (st : State) (m after : Refusals) → after.least.items ≡ m.least.items → after.reaches.items ≡ m.reaches.items → AreStill m.regions.entries after.regions.entries
+    → ((e : Entry Region) → Contains after.regions.entries e → IsOfLine after.reaches.items s.sizes st e) → AreTrue m s st → AreTrue after s st
+still_kept s st m after least reaches stay own h = record {
   remembered = record { none = λ line class first l. h.remembered.none line class first (subst (λ (table : List ℕ). class < slice_index_or table line 0) least l) };
   covers = subst (λ (ns : List ℕ). AreCovering s.rules ns) (sym reaches) h.covers;
   reaching = record {
     given = λ line p. h.reaching.given line (subst (λ (table : List ℕ). 0 < slice_index_or table line 0) least p);
     regions = λ line class c first l.
         still_has m after s.sizes st.points line class reaches stay (h.reaching.regions line class c first (subst (λ (table : List ℕ). class < slice_index_or table line.0 0) least l));
+    own = own;
   };
 }
 
@@ -86,6 +98,19 @@ new_region m after sizes points line class box k reaches tried i holds = record 
     level : (n : ℕ) → n ≤ n
     level n = omega arith
 
+-- an entry of a front line, with the box of the line's reach at a class, is of the line
+pub new_own : (f : FrontState) (sizes : SizeField) (reaches : List ℕ) (line class : ℕ) (box : Bounds) (k : Key) → IsFrontState f → class < length reaches → is_some (line_at f.lines line) ≡ true
+    → ((ends : ℕ × ℕ) → line_at f.lines line ≡ Some ends → IsReachBox sizes f.points (slice_index_or reaches class 0) ends.0 ends.1 box)
+    → IsOfLine reaches sizes (state_of f) (record { key = k; bounds = box; value = record { line = line; class = class } })
+new_own f sizes reaches line class box k front tried there holds = record {
+  given = on_front f line front there;
+  box = λ other c e. record {
+    class = class;
+    tried = tried;
+    is_box = holds (other.1, other.2) (subst (λ (n : ℕ). line_at f.lines n ≡ Some (other.1, other.2)) e (line_numbered f.lines f.next c.0 other other front.rising c.1 c.2));
+  };
+}
+
 -- a class before the first that isn't remembered is remembered
 pub class_before : (refused : List ℕ) (line class : ℕ) → 2 ≤ class → class ≤ least_open refused line → (1 ≤ class - 1) × (class - 1 < slice_index_or refused line 0)
 class_before refused line class two first = (omega arith, below (slice_index_or refused line 0) first)
@@ -98,13 +123,9 @@ module _ (s : RunSetting) (f : FrontState) (m after : Refusals) (line class : �
   still_given : is_some (line_at f.lines line) ≡ true → (other : ℕ) → 0 < slice_index_or after.least.items other 0 → other < f.next
   still_given there other p = by (noted.each other)
     where
-      here : (o : Option (ℕ × ℕ)) → line_at f.lines line ≡ o → is_some o ≡ true → line < f.next
-      here None e t = absurd (cc)
-      here (Some ends) e t = below_next f.lines f.next (line, ends.0, ends.1) front.rising (line_there f.lines line ends e)
-
       by : (slice_index_or after.least.items other 0 ≡ slice_index_or m.least.items other 0) ⊎ ((other ≡ line) × (slice_index_or after.least.items other 0 ≡ class + 1)) → other < f.next
       by (inl same) = h.reaching.given other (subst (λ (v : ℕ). 0 < v) same p)
-      by (inr e) = subst (λ (n : ℕ). n < f.next) (sym e.0) (here (line_at f.lines line) refl there)
+      by (inr e) = subst (λ (n : ℕ). n < f.next) (sym e.0) (on_front f line front there)
 
   -- a class of the line is the new one, or one that was remembered
   all_have : class ≤ least_open m.least.items line → ((ends : ℕ × ℕ) → line_at f.lines line ≡ Some ends → HasRegion m s.sizes f.points (line, ends.0, ends.1) class)
@@ -129,13 +150,14 @@ module _ (s : RunSetting) (f : FrontState) (m after : Refusals) (line class : �
       by (inr e) = here e.0 (split (slice_index_or after.least.items other.0 0) e.1 l)
 
   -- what is remembered with one more refusal is true
-  pub noted_true : after.reaches.items ≡ m.reaches.items → AreStill m.regions.entries after.regions.entries → is_some (line_at f.lines line) ≡ true → class ≤ least_open m.least.items line
+  pub noted_true : after.reaches.items ≡ m.reaches.items → AreStill m.regions.entries after.regions.entries → ((e : Entry Region) → Contains after.regions.entries e → Contains m.regions.entries e) → is_some (line_at f.lines line) ≡ true → class ≤ least_open m.least.items line
       → ((ends : ℕ × ℕ) → line_at f.lines line ≡ Some ends → HasRegion m s.sizes f.points (line, ends.0, ends.1) class) → ((n : ℕ) → 1 ≤ n → n ≤ class → HasNone s.sizes (state_of f) s.rules line n) → AreTrue after s (state_of f)
-  noted_true reaches stay there first held none = record {
+  noted_true reaches stay fewer there first held none = record {
     remembered = noted_remembered s (state_of f) m.least.items after.least.items line class h.remembered noted none;
     covers = subst (λ (ns : List ℕ). AreCovering s.rules ns) (sym reaches) h.covers;
     reaching = record {
       given = still_given there;
       regions = λ other k c positive l. still_has m after s.sizes f.points other k reaches stay (all_have first held other k c positive l);
+      own = λ e c. subst (λ (ns : List ℕ). IsOfLine ns s.sizes (state_of f) e) (sym reaches) (h.reaching.own e (fewer e c));
     };
   }

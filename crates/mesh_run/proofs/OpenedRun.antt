@@ -18,7 +18,9 @@ use Rattle.mesh_run.specs.Opening.{domain_points, opening_lines, front_from}
 use Rattle.mesh_run.specs.Runs.{pieces_by, opening_of, setting_of}
 use Rattle.mesh_run.specs.RunState.{RunParts, IsRunState, AreOptions, elements_made, run_of, opened_run}
 use Rattle.mesh_run.specs.Remembered.{AreCovering, DoesRemember, IsEmpty}
+use Rattle.digital_tree.specs.declared.Entry.{Entry}
 use Rattle.mesh_run.specs.declared.refusals.Refusals.{Refusals}
+use Rattle.mesh_run.specs.declared.refusals.Region.{Region}
 use Rattle.std.proofs.lemmas.List.{get_or_past}
 use Rattle.mesh_run.proofs.Begun.{begun, same_front}
 
@@ -79,13 +81,16 @@ opened_remembers g p reaches m h options covers e = record {
   remembered = record {
     remembered = record { none = λ line class f l. absurd (nothing line class l) };
     covers = subst (AreCovering p.rules) (sym e.reaches_are) covers;
-    reaching = record { given = λ line l. absurd (nothing line 0 l); regions = λ line class c f l. absurd (nothing line.0 class l) };
+    reaching = record { given = λ line l. absurd (nothing line 0 l); regions = λ line class c f l. absurd (nothing line.0 class l); own = λ x c. absurd (no_entry x c) };
   };
   to_try = tt;
 }
   where
     empty : (line class : ℕ) → class < slice_index_or [] line 0 → ⊥
     empty line class l = let z = get_or_past {X = ℕ} [] line 0 (omega arith) in omega (arith, l, z)
+
+    no_entry : (x : Entry Region) → Contains m.regions.entries x → ⊥
+    no_entry x c = let there = subst (λ (es : List (Entry Region)). Contains es x) e.no_regions c in let w = there.1 in omega (arith, w)
 
     nothing : (line class : ℕ) → class < slice_index_or m.least.items line 0 → ⊥
     nothing line class l = empty line class (subst (λ (table : List ℕ). class < slice_index_or table line 0) e.nothing l)

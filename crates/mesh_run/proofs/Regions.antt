@@ -1,5 +1,5 @@
 -- Entries that are put in and taken out, and the one entry of a key.
-use Rattle.std.proofs.Common.{◌≡◌, ◌≢◌, ℕ, zero, suc, ◌<◌, ◌≤◌, Bool, true, false, cond, nat_eq, filter, List, [], ◌∷◌, length, slice_index_or, refl, sym, ◌∙◌, subst, arith, Option, None, Some, OnSome, IfNone, Contains}
+use Rattle.std.proofs.Common.{◌≡◌, ◌≢◌, ℕ, zero, suc, ◌<◌, ◌≤◌, ◌⊎◌, inl, inr, Bool, true, false, cond, nat_eq, filter, List, [], ◌∷◌, length, slice_index_or, refl, sym, ◌∙◌, subst, arith, Option, None, Some, OnSome, IfNone, Contains}
 use Rattle.std.specs.List.{AllByRecursion}
 use Rattle.std.proofs.lemmas.List.Elements.{All-contains_itself, recursion_from_All}
 use Rattle.grid_geom.specs.declared.Bounds.{Bounds}
@@ -47,6 +47,17 @@ module _ {V : Type 0} where
 
   pub still_there : {e : Entry V} {old new : List (Entry V)} → IsInserted e old new → (x : Entry V) → Contains old x → Contains new x
   still_there {e} {old} {new} i x c = contained (Contains new) old x (all_left (Contains new) i (all_there new)) c
+
+  -- what is there once one is put in is this one, or was there
+  pub was_there : {e : Entry V} {old new : List (Entry V)} → IsInserted e old new → (x : Entry V) → Contains new x → (x ≡ e) ⊎ Contains old x
+  was_there {e} {old} {new} i x c =
+      contained (λ y. (y ≡ e) ⊎ Contains old y) new x
+      (all_inserted (λ y. (y ≡ e) ⊎ Contains old y) i (inl refl) (all_map (Contains old) (λ y. (y ≡ e) ⊎ Contains old y) (λ y h. inr h) old (all_there old))) c
+
+  -- what is left where one is taken out was there
+  pub left_was : (k : Key) (old new : List (Entry V)) (r : Option (Bounds × V)) → OnSome r (IsRemoved k old new) → IfNone r (new ≡ old) → (x : Entry V) → Contains new x → Contains old x
+  left_was k old new (Some held) gone same x c = still_there gone.gone x c
+  left_was k old new None gone same x c = subst (λ (es : List (Entry V)). Contains es x) same c
 
   -- entries with another key stay where one is taken out
   other_stays : (k : Key) {old new : List (Entry V)} → IsRemoved k old new → (x : Entry V) → Contains old x → x.key ≢ k → Contains new x

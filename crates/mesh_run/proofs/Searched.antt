@@ -2,13 +2,15 @@
 use Rattle.std.proofs.Common.{◌≡◌, ℕ, ◌+◌, ◌<◌, ◌≤◌, ◌⊎◌, inl, inr, slice_index_or, List, sym, subst, arith}
 use Rattle.std.specs.List.{Contains}
 use Rattle.grid_geom.specs.declared.Point.{Point}
+use Rattle.digital_tree.specs.declared.Entry.{Entry}
 use Rattle.size_field.specs.Size.{SizeField}
 use Rattle.mesh_run.specs.declared.refusals.Refusals.{Refusals}
+use Rattle.mesh_run.specs.declared.refusals.Region.{Region}
 use Rattle.state_law.specs.State.{State}
 use Rattle.rule_match.specs.declared.application.Application.{Application}
 use Rattle.rule_match.specs.Least.{HasNone}
 use Rattle.mesh_run.specs.Steps.{RunSetting, IsNext, NothingApplies}
-use Rattle.mesh_run.specs.Remembered.{AreReaching, AreRemembered, AreTrue, HasRegion, IsNoted}
+use Rattle.mesh_run.specs.Remembered.{AreReaching, AreRemembered, AreTrue, HasRegion, IsNoted, IsOfLine, IsReachOfLine}
 use Rattle.mesh_run.proofs.SameState.{AreSame, same_best, same_none}
 
 -- what is remembered of a line that has no candidate up to a class is true
@@ -40,12 +42,20 @@ same_nothing s st other same n = record { none = λ class line first l. same_non
 same_remembered : (s : RunSetting) (refused : List ℕ) (st other : State) → AreSame st other → AreRemembered refused s st → AreRemembered refused s other
 same_remembered s refused st other same h = record { none = λ line class first l. same_none s.sizes s.rules line class st other same (h.none line class first l) }
 
+-- so it is with an entry
+same_own : (reaches : List ℕ) (sizes : SizeField) (st other : State) (e : Entry Region) → AreSame st other → other.next ≡ st.next → IsOfLine reaches sizes st e → IsOfLine reaches sizes other e
+same_own reaches sizes st other e same next h = record {
+  given = subst (λ (n : ℕ). e.value.line < n) (sym next) h.given;
+  box = λ line c f. subst (λ (ps : List Point). IsReachOfLine reaches sizes ps line e.bounds) same.points (h.box line (subst (λ (front : List (ℕ × ℕ × ℕ)). Contains front line) (sym same.front) c) f);
+}
+
 -- so it is with the regions, and with all that is remembered
 pub same_reaching : (m : Refusals) (sizes : SizeField) (st other : State) → AreSame st other → other.next ≡ st.next → AreReaching m sizes st → AreReaching m sizes other
 same_reaching m sizes st other same next h = record {
   given = λ line p. subst (λ (n : ℕ). line < n) (sym next) (h.given line p);
   regions = λ line class c first l.
       subst (λ (ps : List Point). HasRegion m sizes ps line class) same.points (h.regions line class (subst (λ (front : List (ℕ × ℕ × ℕ)). Contains front line) (sym same.front) c) first l);
+  own = λ e c. same_own m.reaches.items sizes st other e same next (h.own e c);
 }
 
 pub same_true : (s : RunSetting) (m : Refusals) (st other : State) → AreSame st other → other.next ≡ st.next → AreTrue m s st → AreTrue m s other

@@ -25,14 +25,14 @@ use Rattle.rule_match.proofs.ReachBoxes.{far_by_box}
 use Rattle.mesh_run.specs.declared.refusals.Refusals.{Refusals}
 use Rattle.mesh_run.specs.declared.refusals.Region.{Region}
 use Rattle.mesh_run.specs.Reached.{IsReached, MayBeApplied}
-use Rattle.mesh_run.specs.Remembered.{AreCovering, AreTrue, DoesRemember, HasRegion, IsForgottenNear, IsInArea, IsRegion}
+use Rattle.mesh_run.specs.Remembered.{AreCovering, AreTrue, DoesRemember, HasRegion, IsForgottenNear, IsInArea, IsOfLine, IsReachOfLine, IsRegion}
 use Rattle.mesh_run.specs.Worklist.{AreToTry, AreTriedAgain, AreTriedFirst, DoesStay, IsOn, IsToTry, least_open}
 use Rattle.mesh_run.proofs.Tried.{still_on}
 use Rattle.mesh_run.specs.RunState.{RunParts, run_of, setting_by}
 use Rattle.mesh_run.specs.Steps.{RunSetting, IsNext, applied, with_points}
 use Rattle.mesh_run.proofs.GoesOn.{IsPushed, of_front, put_holds}
 use Rattle.mesh_run.proofs.HeldAreas.{Holds}
-use Rattle.mesh_run.proofs.Numbers.{point_kept}
+use Rattle.mesh_run.proofs.Numbers.{AreJoined, point_kept}
 use Rattle.mesh_run.proofs.Searched.{same_true}
 use Rattle.mesh_run.proofs.StillNone.{Triple, IsOldOrNew, all_old, below_next, contained, elements_on, next_rises, still_none, stays_same}
 
@@ -70,7 +70,7 @@ rising_on w [] r = r
 rising_on w (ns ∷ els) r = rising_on (glued w ns) els (glued_rising w ns r)
 
 -- a line has the same box where its ends have the same places
-moved_box : (sizes : SizeField) (points later : List Point) (n from to : ℕ) (box : Bounds) → point_at later from ≡ point_at points from → point_at later to ≡ point_at points to → IsReachBox sizes points n from to box → IsReachBox sizes later n from to box
+pub moved_box : (sizes : SizeField) (points later : List Point) (n from to : ℕ) (box : Bounds) → point_at later from ≡ point_at points from → point_at later to ≡ point_at points to → IsReachBox sizes points n from to box → IsReachBox sizes later n from to box
 moved_box sizes points later n from to box e g h = record {
   frame = h.frame;
   is_frame = h.is_frame;
@@ -81,6 +81,16 @@ moved_box sizes points later n from to box e g h = record {
   below = h.below;
   above = h.above;
 }
+
+-- the ends of a line of before are where they were
+pub kept_place : (st : State) (a : Application) (line : Triple) → AreJoined st.points st.front → Contains st.front line
+    → (point_at (applied st a).points line.1 ≡ point_at st.points line.1) × (point_at (applied st a).points line.2 ≡ point_at st.points line.2)
+kept_place st a line joined c =
+    let listed = contained (λ other. IsListed (length st.points) other.1 × IsListed (length st.points) other.2) st.front line joined c in
+    (place line.1 listed.0, place line.2 listed.1)
+  where
+    place : (n : ℕ) → IsListed (length st.points) n → point_at (applied st a).points n ≡ point_at st.points n
+    place n l = ap (λ (ps : List Point). point_at ps n) (same_points (with_points st a.made) a.elements) ∙ point_kept st.points a.made n l
 
 -- a box that doesn't meet an area is apart from it
 missed_apart : (area : Bounds) (e : Entry Region) → is_hit area e ≡ false → AreBoxesApart e.bounds.lo e.bounds.hi area.lo area.hi
@@ -114,7 +124,7 @@ record IsMissed (m after : Refusals) (sizes : SizeField) (points : List Point) (
   there : Contains after.regions.entries entry
 
 module _ (s : RunSetting) (b : List Edge) (st : State) (a : Application) (before after : Refusals) (r : IsReached b st) (m : MayBeApplied st a) (rising : AreRising st.front st.next)
-    (h : AreTrue before s st) (f : IsForgottenNear st a before after) where
+    (h : AreTrue before s st) (f : IsForgottenNear (st.points ++ a.made) a.elements before after) where
   -- each later line was there, or has a new number
   old_or_new : (line : Triple) → Contains (applied st a).front line → Contains st.front line ⊎ (st.next ≤ line.0)
   old_or_new line c = contained (IsOldOrNew st.front st.next) (applied st a).front line (elements_on st.front st.next (with_points st a.made) a.elements (level st.next) (all_old st.front st.next st.front (λ l k. k))) c
@@ -183,15 +193,9 @@ module _ (s : RunSetting) (b : List Edge) (st : State) (a : Application) (before
   has_after : (line : Triple) (class : ℕ) → Contains (applied st a).front line → 1 ≤ class → class < slice_index_or after.least.items line.0 0 → HasRegion after s.sizes (applied st a).points line class
   has_after line class c first l = by (old_or_new line c)
     where
-      points : (applied st a).points ≡ st.points ++ a.made
-      points = same_points (with_points st a.made) a.elements
-
-      place : (n : ℕ) → IsListed (length st.points) n → point_at (applied st a).points n ≡ point_at st.points n
-      place n l = ap (λ (ps : List Point). point_at ps n) points ∙ point_kept st.points a.made n l
-
       by : Contains st.front line ⊎ (st.next ≤ line.0) → HasRegion after s.sizes (applied st a).points line class
       by (inl k) =
-          let listed = contained (λ other. IsListed (length st.points) other.1 × IsListed (length st.points) other.2) st.front line r.numbered.lines_listed k in
+          let places = kept_place st a line r.numbered.lines_listed k in
           let i = missed line class k first l in
           record {
             entry = i.entry;
@@ -202,10 +206,30 @@ module _ (s : RunSetting) (b : List Edge) (st : State) (a : Application) (before
               last = i.region.last;
               no_less = i.region.no_less;
               tried = i.region.tried;
-              holds = moved_box s.sizes st.points (applied st a).points (slice_index_or before.reaches.items i.region.last 0) line.1 line.2 i.entry.bounds (place line.1 listed.0) (place line.2 listed.1) i.region.holds;
+              holds = moved_box s.sizes st.points (applied st a).points (slice_index_or before.reaches.items i.region.last 0) line.1 line.2 i.entry.bounds places.0 places.1 i.region.holds;
             });
           }
       by (inr k) = absurd (clash line.0 st.next (was_given line.0 (some class (slice_index_or after.least.items line.0 0) l)) k)
+
+  -- and each entry that is left is of a line that is or was there
+  own_after : (e : Entry Region) → Contains after.regions.entries e → IsOfLine after.reaches.items s.sizes (applied st a) e
+  own_after e c = record { given = below e.value.line st.next (applied st a).next was.given (next_on (with_points st a.made) a.elements); box = λ line on same. by line same (old_or_new line on) }
+    where
+      was : IsOfLine before.reaches.items s.sizes st e
+      was = h.reaching.own e (f.fewer e c)
+
+      below : (line next more : ℕ) → line < next → next ≤ more → line < more
+      below line next more l k = omega arith
+
+      by : (line : Triple) → line.0 ≡ e.value.line → Contains st.front line ⊎ (st.next ≤ line.0) → IsReachOfLine after.reaches.items s.sizes (applied st a).points line e.bounds
+      by line same (inl k) =
+          let places = kept_place st a line r.numbered.lines_listed k in let i = was.box line k same in
+          subst (λ (ns : List ℕ). IsReachOfLine ns s.sizes (applied st a).points line e.bounds) (sym f.reaches) (record {
+            class = i.class;
+            tried = i.tried;
+            is_box = moved_box s.sizes st.points (applied st a).points (slice_index_or before.reaches.items i.class 0) line.1 line.2 e.bounds places.0 places.1 i.is_box;
+          })
+      by line same (inr k) = absurd (clash e.value.line st.next was.given (subst (λ (n : ℕ). st.next ≤ n) same k))
 
   pub still_true : AreTrue after s (applied st a)
   still_true = record {
@@ -214,6 +238,7 @@ module _ (s : RunSetting) (b : List Edge) (st : State) (a : Application) (before
     reaching = record {
       given = λ line p. below line st.next (applied st a).next (was_given line p) (next_on (with_points st a.made) a.elements);
       regions = has_after;
+      own = own_after;
     };
   }
     where
@@ -258,7 +283,7 @@ module _ (s : RunSetting) (b : List Edge) (st : State) (a : Application) (before
 
 pub remembers_after : (p : RunParts) (a : Application) (same after : FrontState) (applications : List Application) (before left : Refusals) (was kept now : Option (BTreeSet (ℕ × ℕ))) → DoesRemember (run_of p) before was
     → IsNext (setting_by (run_of p).basis) (run_of p).state a → IsFrontState same → MayBeApplied (state_of same) a → IsPushed p a same after applications
-    → IsForgottenNear (state_of same) a before left → AreTriedAgain (record { least = before.least.items; work = was }) (record { least = left.least.items; work = kept }) → AreTriedFirst same.next after.next kept now
+    → IsForgottenNear (same.points ++ a.made) a.elements before left → AreTriedAgain (record { least = before.least.items; work = was }) (record { least = left.least.items; work = kept }) → AreTriedFirst same.next after.next kept now
     → DoesRemember (run_of (record p { front = after; applications = applications })) left now
 remembers_after p a same after applications before left was kept now h next front may pushed f again new =
     let s = setting_by (run_of p).basis in

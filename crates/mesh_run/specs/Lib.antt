@@ -16,6 +16,8 @@ pub mod RunState
 -- Worklist: the classes and lines that are to be tried. Remembered: refusals that a run remembers.
 pub mod Worklist
 pub mod Remembered
+-- Trials: how many trials a run makes, and how many are due.
+pub mod Trials
 pub mod Sum
 -- Conform: no side is used twice, and no point hangs, in the states of all domains.
 pub mod Conform

@@ -5,24 +5,25 @@
 -- AreRemembered   what is remembered of each line is true
 -- AreCovering     reaches by class, each of which covers the rules up to its class
 -- IsRegion        an entry is the region of a line at a class; HasRegion, a line has one
--- AreReaching     and each class that is remembered of a front line has a region
+-- AreReaching     each class that is remembered of a front line has a region, and each region is of such a line (IsOfLine)
 -- AreTrue         all of these; IsEmpty, nothing is remembered
--- IsInArea        a place lies in a closed box; IsWider, a box holds another one
+-- IsInArea        a place lies in a closed box; IsWider, a box holds another one; HoldsCorners, it holds the corners of elements
 -- AreStill        entries that stay
+-- AreHits         the entries whose boxes meet the box of an application's elements
 -- IsForgotten     what is remembered once an entry is forgotten; AreForgotten, once a list of entries is
 -- IsForgottenNear what is remembered after forgetting near an application's elements
 -- IsNoted         one more refusal is remembered; AreSameRefusals, none is
 -- setting_in      what is searched; state_in, the state that is looked at
 -- DoesRemember    a run keeps its state, what it remembers is true, and its front lines are to be tried
 -- IsApartFrom     an application's elements lie in a box apart from another one
-use Rattle.std.specs.Prelude.{ℕ, ◌≡◌, ◌≢◌, ◌⊎◌, ◌≤◌, ◌<◌, ◌≤ℤ◌, false, List, [], ◌++◌, length, map, slice_index_or, Option, IfSome}
+use Rattle.std.specs.Prelude.{ℕ, ◌≡◌, ◌≢◌, ◌⊎◌, ◌≤◌, ◌<◌, ◌≤ℤ◌, false, List, [], ◌++◌, length, map, slice_index_or, filter, Option, IfSome}
 use Rattle.std.specs.BTreeSet.{BTreeSet}
 use Rattle.std.specs.List.{All, AllByRecursion, Contains}
 use Rattle.grid_geom.specs.declared.Bounds.{Bounds}
 use Rattle.grid_geom.specs.declared.Point.{Point}
 use Rattle.grid_geom.specs.Boxes.{DoBoundsMeet}
 use Rattle.digital_tree.specs.declared.Entry.{Entry}
-use Rattle.digital_tree.specs.Entries.{is_hit}
+use Rattle.digital_tree.specs.Entries.{is_hit, AreDifferent}
 use Rattle.size_field.specs.Size.{SizeField}
 use Rattle.state_law.specs.Saved.{AreInBox}
 use Rattle.state_law.specs.State.{State, corners_of, point_at}
@@ -30,7 +31,7 @@ use Rattle.rule_reader.specs.declared.rule.Rule.{Rule}
 use Rattle.front_chain.specs.Front.{state_of}
 use Rattle.rule_match.specs.declared.application.Application.{Application}
 use Rattle.rule_match.specs.Least.{HasNone}
-use Rattle.rule_match.specs.Near.{AreBoxesApart, IsBox, IsCoveredAt, IsReachBox, whole_grid}
+use Rattle.rule_match.specs.Near.{AreBoxesApart, IsBox, IsCoveredAt, IsCoveredBy, IsReachBox, whole_grid}
 use Rattle.mesh_run.specs.declared.refusals.Refusals.{Refusals}
 use Rattle.mesh_run.specs.declared.refusals.Region.{Region}
 use Rattle.mesh_run.specs.declared.search.Scene.{Scene}
@@ -44,9 +45,11 @@ pub record AreRemembered (refused : List ℕ) (s : RunSetting) (st : State) : Ty
   pub none : (line class : ℕ) → 1 ≤ class → class < slice_index_or refused line 0
       → HasNone s.sizes st s.rules line class
 
--- the reach at each class up to 16 covers the rules up to the class
+-- the reach at each class up to 16 covers the rules up to the class, and is no greater than a number that covers them at all classes
 pub record AreCovering (rules : List Rule) (reaches : List ℕ) : Type 0 where
   pub long : 16 < length reaches
+  pub no_greater : (class : ℕ) → class < length reaches → (n : ℕ)
+      → AllByRecursion (IsCoveredBy n) rules → slice_index_or reaches class 0 ≤ n
   pub covers : (class : ℕ) → class < length reaches
       → AllByRecursion (IsCoveredAt class (slice_index_or reaches class 0)) rules
 
@@ -65,11 +68,26 @@ pub record HasRegion (m : Refusals) (sizes : SizeField) (points : List Point) (l
   pub there : Contains m.regions.entries entry
   pub region : IsRegion m.reaches.items sizes points line class entry
 
--- something is remembered only of numbers that lines have or had; and each class that is remembered of a front line has a region
+-- the box is that of the line's reach up to some class
+pub record IsReachOfLine (reaches : List ℕ) (sizes : SizeField) (points : List Point) (line : ℕ × ℕ × ℕ) (box : Bounds) : Type 0 where
+  pub class : ℕ
+  pub tried : class < length reaches
+  pub is_box : IsReachBox sizes points (slice_index_or reaches class 0) line.1 line.2 box
+
+-- the entry is of a line that is or was on the front, and of one that is its box is that of the line's reach up to some class
+pub record IsOfLine (reaches : List ℕ) (sizes : SizeField) (st : State) (e : Entry Region) : Type 0 where
+  pub given : e.value.line < st.next
+  pub box : (line : ℕ × ℕ × ℕ) → Contains st.front line → line.0 ≡ e.value.line
+      → IsReachOfLine reaches sizes st.points line e.bounds
+
+-- something is remembered only of numbers that lines have or had; each class that is remembered of a front line has a region; and each
+-- entry is of such a line
 pub record AreReaching (m : Refusals) (sizes : SizeField) (st : State) : Type 0 where
   pub given : (line : ℕ) → 0 < slice_index_or m.least.items line 0 → line < st.next
   pub regions : (line : ℕ × ℕ × ℕ) (class : ℕ) → Contains st.front line → 1 ≤ class
       → class < slice_index_or m.least.items line.0 0 → HasRegion m sizes st.points line class
+  pub own : (e : Entry Region) → Contains m.regions.entries e
+      → IsOfLine m.reaches.items sizes st e
 
 -- what is remembered is true, and the reaches cover the rules
 pub record AreTrue (m : Refusals) (s : RunSetting) (st : State) : Type 0 where
@@ -80,6 +98,7 @@ pub record AreTrue (m : Refusals) (s : RunSetting) (st : State) : Type 0 where
 -- nothing is remembered, and the reaches are these
 pub record IsEmpty (reaches : List ℕ) (m : Refusals) : Type 0 where
   pub nothing : m.least.items ≡ []
+  pub no_regions : m.regions.entries ≡ []
   pub reaches_are : m.reaches.items ≡ reaches
 
 -- as much is remembered of each line
@@ -115,17 +134,45 @@ pub record IsWider (area wider : Bounds) : Type 0 where
   pub below : wider.lo.y ≤ℤ area.lo.y
   pub above : area.hi.y ≤ℤ wider.hi.y
 
+-- the box holds the corners of the elements, by the numbers of these points
+abbrev pub HoldsCorners : List Point → List (List ℕ) → Bounds → Type 0
+HoldsCorners points elements box =
+    All (λ ns. All (λ n. IsInArea box (point_at points n)) ns) elements
+
 -- ---- what is forgotten
 -- each entry of before is there
 pub record AreStill (before after : List (Entry Region)) : Type 0 where
   pub each : (e : Entry Region) → Contains before e → Contains after e
 
--- of no line more is remembered, and of the entry's line nothing from its class on; and entries with other keys stay
+-- the area is the least box that holds the corners of the elements, by the numbers of these points: a box on the grid. The entries are those whose boxes
+-- meet it
+pub record AreHits (points : List Point) (elements : List (List ℕ)) (entries hits : List (Entry Region)) : Type 0 where
+  pub area : Bounds
+  pub holds : HoldsCorners points elements area
+  pub on_grid : DoBoundsMeet area whole_grid
+  pub least : (other : Bounds) → DoBoundsMeet other whole_grid
+      → HoldsCorners points elements other → IsWider area other
+  pub different : AreDifferent entries
+  pub hits_are : hits ≡ filter (is_hit area) entries
+
+-- one of the entries is of the line
+pub record HasEntryOf (es : List (Entry Region)) (line : ℕ) : Type 0 where
+  pub entry : Entry Region
+  pub there : Contains es entry
+  pub of_line : entry.value.line ≡ line
+
+-- of no line more is remembered, of the entry's line nothing from its class on, and of each other line as much as before; entries with other keys
+-- stay, and none comes
 pub record IsForgotten (e : Entry Region) (before after : Refusals) : Type 0 where
   pub reaches : after.reaches.items ≡ before.reaches.items
   pub less : (line : ℕ)
       → slice_index_or after.least.items line 0 ≤ slice_index_or before.least.items line 0
   pub forgotten : slice_index_or after.least.items e.value.line 0 ≤ e.value.class
+  pub kept : (line : ℕ)
+      → (slice_index_or after.least.items line 0 ≡ slice_index_or before.least.items line 0)
+      ⊎ (e.value.line ≡ line)
+  pub fewer : (other : Entry Region) → Contains after.regions.entries other
+      → Contains before.regions.entries other
   pub others : (other : Entry Region) → Contains before.regions.entries other
       → other.key ≢ e.key → Contains after.regions.entries other
 
@@ -135,21 +182,34 @@ pub record AreForgotten (es : List (Entry Region)) (before after : Refusals) : T
   pub less : (line : ℕ)
       → slice_index_or after.least.items line 0 ≤ slice_index_or before.least.items line 0
   pub forgotten : All (λ e. slice_index_or after.least.items e.value.line 0 ≤ e.value.class) es
+  pub kept : (line : ℕ)
+      → (slice_index_or after.least.items line 0 ≡ slice_index_or before.least.items line 0)
+      ⊎ HasEntryOf es line
+  pub fewer : (other : Entry Region) → Contains after.regions.entries other
+      → Contains before.regions.entries other
   pub others : (other : Entry Region) → Contains before.regions.entries other
       → All (λ e. other.key ≢ e.key) es → Contains after.regions.entries other
 
--- the area holds the corners of the application's elements. Of no line more is remembered; and for each entry of before, of its line
--- nothing is from its class on, or its box doesn't meet the area, and it is still there
-pub record IsForgottenNear (st : State) (a : Application) (before after : Refusals) : Type 0 where
+-- what is remembered after the entries are forgotten whose boxes meet the area, the least box of the corners of the elements. Of no line more is remembered, and
+-- of a line of none of these entries as much as before; for each entry of before, of its line nothing is from its class on, or its box doesn't meet the
+-- area, and it is still there; and no entry comes
+pub record IsForgottenNear (points : List Point) (elements : List (List ℕ)) (before after : Refusals) : Type 0 where
   pub area : Bounds
-  pub holds : All (λ ns. All (λ n. IsInArea area (point_at (st.points ++ a.made) n)) ns) a.elements
+  pub holds : HoldsCorners points elements area
   pub on_grid : DoBoundsMeet area whole_grid
+  pub least : (other : Bounds) → DoBoundsMeet other whole_grid
+      → HoldsCorners points elements other → IsWider area other
   pub reaches : after.reaches.items ≡ before.reaches.items
   pub less : (line : ℕ)
       → slice_index_or after.least.items line 0 ≤ slice_index_or before.least.items line 0
+  pub kept : (line : ℕ)
+      → (slice_index_or after.least.items line 0 ≡ slice_index_or before.least.items line 0)
+      ⊎ HasEntryOf (filter (is_hit area) before.regions.entries) line
   pub each : (e : Entry Region) → Contains before.regions.entries e
       → (slice_index_or after.least.items e.value.line 0 ≤ e.value.class)
       ⊎ ((is_hit area e ≡ false) × Contains after.regions.entries e)
+  pub fewer : (e : Entry Region) → Contains after.regions.entries e
+      → Contains before.regions.entries e
 
 -- ---- what is searched
 -- what a search stands on, and the state that it looks at

@@ -1,9 +1,12 @@
 // What a run remembers of lines that have no candidate.
-ghost use Rattle.std.specs.Prelude.{ℕ, ◌≡◌, ◌+◌, ◌-◌, ◌<◌, ◌≤◌, Some, length, slice_index_or, IsSome, IsTrue, IfOk, OnOk};
+ghost use Rattle.std.specs.Prelude.{ℕ, ◌≡◌, ◌+◌, ◌-◌, ◌<◌, ◌≤◌, Some, length, slice_index_or, IsSome, IsTrue, IfOk, OnOk, OnErr};
+ghost use Rattle.std.specs.List.{Contains};
+ghost use Rattle.digital_tree.specs.declared.Entry.{Entry};
 ghost use Rattle.front_chain.specs.Front.{line_at};
 ghost use Rattle.rule_match.specs.Least.{HasNone};
-ghost use Rattle.mesh_run.specs.Remembered.{AreCovering, AreSameRefusals, AreStill, AreTrue, HasRegion, IsEmpty, IsNoted, setting_in, state_in};
-ghost use Rattle.mesh_run.specs.Worklist.{least_open};
+ghost use Rattle.mesh_run.specs.Remembered.{AreCovering, AreSameRefusals, AreStill, AreTrue, HasRegion, IsEmpty, IsNoted, IsOfLine, setting_in, state_in};
+ghost use Rattle.mesh_run.specs.Trials.{due_in};
+ghost use Rattle.mesh_run.specs.Worklist.{IsOpenTurn, least_open};
 
 use super::search::Scene;
 use digital_tree::Tree;
@@ -33,7 +36,7 @@ pub struct Refusals {
 /// A run tries classes up to this one at most.
 const LAST_CLASS: u32 = 16;
 
-/// By class, how far the rules reach up to it.
+/// By class, how far the rules reach up to it: no farther than at all classes.
 pub fn reaches_of(alloc: Global, rules: &RuleSet<'_>) -> Result<Vec<u64>, OutOfMemory>
     ensures { IfOk result (λ reaches. AreCovering rules.now reaches.items) }
 {
@@ -70,6 +73,7 @@ fn lengthen(table: &mut Vec<u64>, place: u64) -> Result<(), OutOfMemory>
 fn note(table: &mut Vec<u64>, place: u64, number: u64) -> Result<(), OutOfMemory>
     ensures noted { IsNoted table.old.items table.new.items place number }
     ensures there { OnOk result (slice_index_or table.new.items place 0 ≡ number) }
+    ensures same { OnErr result (AreSameRefusals table.old.items table.new.items) }
 {
     lengthen(table, place)?;
     table[place as usize] = number;
@@ -118,11 +122,14 @@ fn hold(
     ensures least { refusals.new.least.items ≡ refusals.old.least.items }
     ensures reaches { refusals.new.reaches.items ≡ refusals.old.reaches.items }
     ensures stay { AreStill refusals.old.regions.entries refusals.new.regions.entries }
+    ensures own { (e : Entry Region) → Contains refusals.new.regions.entries e →
+        IsOfLine refusals.new.reaches.items scene.now.sizes.now (state_in scene.now) e }
     ensures held { OnOk result ((ends : ℕ × ℕ) →
         line_at scene.now.front.now.lines line ≡ Some ends →
         HasRegion refusals.new scene.now.sizes.now scene.now.front.now.points
         (line, ends.0, ends.1) class) }
 {
+    let _lines = scene.front.lines();
     if is_no_farther(refusals, class) {
         return Ok(());
     }
@@ -148,6 +155,11 @@ pub fn remember(
     ensures remembered { AreTrue refusals.new (setting_in scene.now) (state_in scene.now) }
     ensures noted { IsNoted refusals.old.least.items refusals.new.least.items line (class + 1) }
     ensures there { OnOk result (slice_index_or refusals.new.least.items line 0 ≡ class + 1) }
+    ensures fewer { OnOk result (IsOpenTurn scene.now.front.now.lines refusals.old.least.items
+        scene.now.last (class, line) →
+        due_in scene.now refusals.new + 1 ≤ due_in scene.now refusals.old) }
+    ensures as_many { OnErr result (due_in scene.now refusals.new
+        ≡ due_in scene.now refusals.old) }
 {
     let _lines = scene.front.lines();
     hold(scene, refusals, class, line)?;

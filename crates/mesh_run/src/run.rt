@@ -1,5 +1,5 @@
 // The run of a domain by rules.
-ghost use Rattle.std.specs.Prelude.{◌≡◌, ◌<◌, ◌↔◌, length, IsTrue, IfOk, IfSome, IfNone, OnOk, OnErr};
+ghost use Rattle.std.specs.Prelude.{◌≡◌, ◌+◌, ◌*◌, ◌<◌, ◌≤◌, ◌↔◌, length, IsTrue, IfOk, IfSome, IfNone, OnOk, OnErr};
 ghost use Rattle.std.specs.List.{Contains};
 ghost use Rattle.geom_check.specs.Domains.{domain_numbers};
 ghost use Rattle.mesh_run.specs.Mesh.{NamesItsPoints};
@@ -7,6 +7,7 @@ ghost use Rattle.mesh_run.specs.Opening.{mesh_points};
 ghost use Rattle.mesh_run.specs.Remembered.{AreCovering};
 ghost use Rattle.mesh_run.specs.Runs.{pieces_by};
 ghost use Rattle.mesh_run.specs.Steps.{IsNext, NothingApplies, IsSpent};
+ghost use Rattle.mesh_run.specs.Trials.{DoesPay, DoesPayAll, IsPaid};
 
 use super::applying::{copy_of, put};
 use super::ground::Ground;
@@ -14,13 +15,14 @@ use super::left::{points_of, rows_of};
 use super::opening::{number_mesh, opening_of};
 use super::refusals::{Refusals, no_refusals, reaches_of};
 use super::search::{Scene, find_next};
-use super::touched::forget_near;
+use super::touched::{forget_all, hits_near};
 use super::worklist::Worklist;
 use super::{Application, Applications, DomainRun, End, FrontRows, OpeningLines, Options, Stepped};
 use front_chain::Front;
 use geom_check::Geometry;
 use grid_geom::Points;
 use rule_maps::RuleSet;
+use rule_match::reach_box;
 use size_field::{Pieces, Sizes, sizes_of};
 use std::alloc::{AllocError as OutOfMemory, Global};
 use std::marker::Model;
@@ -28,7 +30,8 @@ use std::sync::ledger::Ledger;
 use steps::Steps;
 
 /// The run of a domain by rules, as far as it has come. It is seen as its basis, its applications so
-/// far, and the state that these have come to, which is that of the definition.
+/// far, and the state that these have come to, which is that of the definition; and beside them as the
+/// number of trials that are due: pairs of a front line and a class at which it isn't known to be refused.
 #[derive(Drop)]
 pub struct Run<'a> {
     domain: u32,
@@ -46,21 +49,25 @@ pub struct Run<'a> {
 }
 
 impl<'a> Model for Run<'a> {
-    ghost use Rattle.mesh_run.specs.RunState.{RunState, run_of};
+    ghost use Rattle.mesh_run.specs.RunState.{run_of};
     ghost use Rattle.mesh_run.specs.Remembered.{DoesRemember};
+    ghost use Rattle.mesh_run.specs.Trials.{RunView, due};
 
-    ghost Value = { RunState };
+    ghost Value = { RunView };
 
-    ghost view = { λ r. run_of (record {
-      domain = r.domain;
-      options = r.options;
-      sizes = r.sizes;
-      rules = r.rules.now;
-      opened = r.opened;
-      lines = r.lines;
-      front = r.front;
-      applications = r.applications.items;
-    }) };
+    ghost view = { λ r. record {
+      run = run_of (record {
+        domain = r.domain;
+        options = r.options;
+        sizes = r.sizes;
+        rules = r.rules.now;
+        opened = r.opened;
+        lines = r.lines;
+        front = r.front;
+        applications = r.applications.items;
+      });
+      due = due r.options.last r.refusals.least.items r.front.lines;
+    } };
 
     ghost invariant = { λ r. DoesRemember (run_of (record {
       domain = r.domain;
@@ -77,7 +84,7 @@ impl<'a> Model for Run<'a> {
 impl<'a> Run<'a> {
     ghost use Rattle.mesh_run.specs.RunState.{IsStepped, DoesTakeArea, GoesOn, IsEndOfRun, AreOptions, area_left, domain_run, opened_run, setting_by, run_after};
 
-    /// The run of a domain before its first application.
+    /// The run of a domain before its first application. Each opening line is due at each class.
     pub fn open_on(
         alloc: Global,
         ground: &Ground<'_, 'a>,
@@ -89,8 +96,10 @@ impl<'a> Run<'a> {
             ≡ pieces_by ground.now.geometry.now ground.now.options.now }
         requires mesh { ground.now.mesh.now ≡ mesh_points ground.now.pieces.now }
         requires reaches { AreCovering ground.now.rules.now ground.now.reaches.now }
-        ensures { IfOk result (λ run. run ≡ opened_run ground.now.geometry.now ground.now.rules.now
-            ground.now.options.now domain) }
+        ensures run { IfOk result (λ run. run.run ≡ opened_run ground.now.geometry.now
+            ground.now.rules.now ground.now.options.now domain) }
+        ensures due { IfOk result (λ run. run.due
+            ≡ ground.now.options.now.last * length run.run.basis.lines) }
     {
         let geometry = ground.geometry;
         let options = ground.options;
@@ -122,7 +131,7 @@ impl<'a> Run<'a> {
         })
     }
 
-    /// The run of a domain of the geometry before its first application.
+    /// The run of a domain of the geometry before its first application. Each opening line is due at each class.
     ///
     /// The pieces are those into which the options' sizes cut the geometry's segments, the options in
     /// their ranges.
@@ -137,8 +146,10 @@ impl<'a> Run<'a> {
         requires domain { Contains (domain_numbers geometry.now.segments) domain }
         requires options { AreOptions options.now }
         requires pieces { pieces.now ≡ pieces_by geometry.now options.now }
-        ensures { IfOk result (λ run. run
+        ensures run { IfOk result (λ run. run.run
             ≡ opened_run geometry.now rules.now options.now domain) }
+        ensures due { IfOk result (λ run. run.due
+            ≡ options.now.last * length run.run.basis.lines) }
     {
         let mesh = number_mesh(alloc, pieces.as_slice())?.points(alloc)?;
         let reaches = reaches_of(alloc, rules)?;
@@ -161,10 +172,16 @@ impl<'a> Run<'a> {
         steps: &mut Steps<L>,
     ) -> Result<Option<Application>, OutOfMemory>
         ensures next { IfOk result
-            (λ found. IfSome found (IsNext (setting_by self.old.basis) self.old.state)) }
+            (λ found. IfSome found
+            (IsNext (setting_by self.old.run.basis) self.old.run.state)) }
         ensures none { IfOk result
-            (λ found. IfNone found (NothingApplies (setting_by self.old.basis) self.old.state)) }
-        ensures stands { self.new ≡ self.old }
+            (λ found. IfNone found
+            (NothingApplies (setting_by self.old.run.basis) self.old.run.state)) }
+        ensures stands { self.new.run ≡ self.old.run }
+        ensures few { steps.new ≤ steps.old + self.old.due }
+        ensures found { OnOk result (steps.new + self.new.due ≤ steps.old + self.old.due + 1) }
+        ensures refused { IfOk result (λ found. IfNone found
+            (steps.new + self.new.due ≤ steps.old + self.old.due)) }
     {
         let scene = Scene {
             front: &self.front,
@@ -178,27 +195,26 @@ impl<'a> Run<'a> {
     /// Makes the application that comes next, and answers a copy of it. All memory that it
     /// can't do without is taken before the run changes.
     fn apply(&mut self, alloc: Global, application: Application) -> Result<Application, OutOfMemory>
-        requires next { IsNext (setting_by self.old.basis) self.old.state application }
-        ensures applied { OnOk result (self.new ≡ run_after self.old application) }
+        requires next { IsNext (setting_by self.old.run.basis) self.old.run.state application }
+        ensures applied { OnOk result (self.new.run ≡ run_after self.old.run application) }
         ensures copied { IfOk result (λ a. a ≡ application) }
-        ensures falls { OnOk result (area_left self.new < area_left self.old) }
-        ensures stands { OnErr result (self.new ≡ self.old) }
+        ensures falls { OnOk result (area_left self.new.run < area_left self.old.run) }
+        ensures pays { OnOk result (IsPaid (setting_by self.old.run.basis) self.old.run.state
+            application self.old.due (self.new.due + 1)) }
+        ensures stands { OnErr result (self.new.run ≡ self.old.run) }
     {
         let copy = copy_of(alloc, &application)?;
         self.applications.reserve(1)?;
         let made = application.made.as_slice().len();
         let elements = application.elements.as_slice().len();
         self.front.reserve(made, elements)?;
-        // the front is as a front is, and the rule one that a reader gives: so the application may be put on it
+        // the front is as a front is, the rule one that a reader gives, and the base line has a frame: so the
+        // application may be put on it, and it touches the base line
         let _lines = self.front.lines();
         let _rule = self.rules.get(application.rule).rule();
-        forget_near(
-            alloc,
-            &mut self.refusals,
-            &mut self.work,
-            &self.front,
-            &application,
-        );
+        let _reach = reach_box(&self.front, &self.sizes, application.line, 0);
+        let hits = hits_near(alloc, &self.refusals, &self.front, &application)?;
+        forget_all(&mut self.refusals, &mut self.work, hits.as_slice());
         put(&mut self.front, &mut self.work, &application);
         self.applications.push_reserved(application);
         Ok(copy)
@@ -207,15 +223,21 @@ impl<'a> Run<'a> {
     /// Makes the next application, or says that there is none: since no front is left, or since nothing
     /// applies to the front that is. It doesn't look at the limit.
     ///
-    /// Errors: want of memory, and then the run is as before.
+    /// What it makes of trials, calls of `best`, and what is then due, are together no more than was due; but
+    /// for each line that joins or is touched as many more are due as there are classes.
+    ///
+    /// Errors: want of memory, and then the run is as before, and no more trials were made than were due.
     pub fn step<L: Ledger>(
         &mut self,
         alloc: Global,
         steps: &mut Steps<L>,
     ) -> Result<Stepped, OutOfMemory>
-        ensures stepped { IfOk result (IsStepped self.old self.new) }
-        ensures falls { IfOk result (DoesTakeArea self.old self.new) }
-        ensures stands { OnErr result (self.new ≡ self.old) }
+        ensures stepped { IfOk result (IsStepped self.old.run self.new.run) }
+        ensures falls { IfOk result (DoesTakeArea self.old.run self.new.run) }
+        ensures pays { IfOk result (DoesPay self.old.run (steps.old + self.old.due)
+            (steps.new + self.new.due)) }
+        ensures stands { OnErr result (self.new.run ≡ self.old.run) }
+        ensures few { OnErr result (steps.new ≤ steps.old + self.old.due) }
     {
         if self.front.lines() == 0 {
             return Ok(Stepped::Done);
@@ -228,8 +250,8 @@ impl<'a> Run<'a> {
 
     /// Whether as many applications were made as are allowed.
     fn is_spent(&self) -> bool
-        ensures { IsTrue result ↔ IsSpent self.now.basis.options.limit
-            (length self.now.applications) }
+        ensures { IsTrue result ↔ IsSpent self.now.run.basis.options.limit
+            (length self.now.run.applications) }
     {
         match self.options.limit {
             Some(limit) => limit <= self.applications.len() as u64,
@@ -243,9 +265,10 @@ impl<'a> Run<'a> {
         alloc: Global,
         steps: &mut Steps<L>,
     ) -> Result<End, OutOfMemory>
-        requires { IsSpent self.old.basis.options.limit (length self.old.applications) }
-        ensures ended { IfOk result (IsEndOfRun self.old) }
-        ensures stands { self.new ≡ self.old }
+        requires { IsSpent self.old.run.basis.options.limit (length self.old.run.applications) }
+        ensures ended { IfOk result (IsEndOfRun self.old.run) }
+        ensures stands { self.new.run ≡ self.old.run }
+        ensures few { steps.new ≤ steps.old + self.old.due }
     {
         if self.front.lines() == 0 {
             return Ok(End::Done);
@@ -257,7 +280,9 @@ impl<'a> Run<'a> {
     }
 
     /// Makes one application after another until no front is left, nothing applies, or as many were made
-    /// as are allowed. Each takes at least 1 from the front's doubled area, so it ends.
+    /// as are allowed. Each takes at least 1 from the front's doubled area, so it ends. No more trials, calls
+    /// of `best`, are made than were due, and for each line that joins or is touched as many as there are
+    /// classes.
     ///
     /// Errors: want of memory, and then the run has gone on as far as memory went.
     pub fn run<L: Ledger>(
@@ -265,8 +290,9 @@ impl<'a> Run<'a> {
         alloc: Global,
         steps: &mut Steps<L>,
     ) -> Result<End, OutOfMemory>
-        ensures goes_on { GoesOn self.old self.new }
-        ensures ended { IfOk result (IsEndOfRun self.new) }
+        ensures goes_on { GoesOn self.old.run self.new.run }
+        ensures ended { IfOk result (IsEndOfRun self.new.run) }
+        ensures pays { DoesPayAll self.old.run self.new.run (steps.old + self.old.due) steps.new }
     {
         while !self.is_spent() {
             match self.step(alloc, steps)? {
@@ -280,8 +306,8 @@ impl<'a> Run<'a> {
 
     /// What is kept of the run, with its end.
     pub fn into_domain_run(self, alloc: Global, end: End) -> Result<DomainRun, OutOfMemory>
-        ensures run { IfOk result (λ run. run ≡ domain_run self.entry end) }
-        ensures names { OnOk result (NamesItsPoints (domain_run self.entry end)) }
+        ensures run { IfOk result (λ run. run ≡ domain_run self.entry.run end) }
+        ensures names { OnOk result (NamesItsPoints (domain_run self.entry.run end)) }
     {
         let points = points_of(alloc, &self.front)?;
         let front = rows_of(alloc, &self.front)?;

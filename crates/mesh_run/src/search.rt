@@ -2,6 +2,7 @@
 ghost use Rattle.std.specs.Prelude.{◌+◌, ◌-◌, ◌<◌, ◌≤◌, IfOk, IfSome, IfNone, OnOk};
 ghost use Rattle.mesh_run.specs.Steps.{IsNext, NothingApplies};
 ghost use Rattle.mesh_run.specs.Remembered.{AreTrue, setting_in, state_in};
+ghost use Rattle.mesh_run.specs.Trials.{due_in};
 ghost use Rattle.mesh_run.specs.Worklist.{AreRefusedBefore, AreToTry, AreToTryBut, IsOpenTurn, least_open, tries_left};
 
 use super::Application;
@@ -50,6 +51,12 @@ fn try_turn<L: Ledger>(
         (IsNext (setting_in scene.now) (state_in scene.now))) }
     ensures fewer { IfOk result (λ found. IfNone found (tries_left scene.now.last work.new.keys
         < 1 + (scene.now.last - turn.0) + tries_left scene.now.last work.old.keys)) }
+    ensures few { steps.new ≤ steps.old + due_in scene.now refusals.old }
+    ensures found { OnOk result (steps.new + due_in scene.now refusals.new
+        ≤ steps.old + due_in scene.now refusals.old + 1) }
+    ensures refused { IfOk result (λ found. IfNone found
+        (steps.new + due_in scene.now refusals.new
+        ≤ steps.old + due_in scene.now refusals.old)) }
 {
     let (class, line) = turn;
     let (front, sizes) = (scene.front, scene.sizes);
@@ -85,6 +92,12 @@ fn next_in<L: Ledger>(
         (IsNext (setting_in scene.now) (state_in scene.now))) }
     ensures none { IfOk result (λ found. IfNone found
         (NothingApplies (setting_in scene.now) (state_in scene.now))) }
+    ensures few { steps.new ≤ steps.old + due_in scene.now refusals.old }
+    ensures found { OnOk result (steps.new + due_in scene.now refusals.new
+        ≤ steps.old + due_in scene.now refusals.old + 1) }
+    ensures refused { IfOk result (λ found. IfNone found
+        (steps.new + due_in scene.now refusals.new
+        ≤ steps.old + due_in scene.now refusals.old)) }
 {
     let _lines = scene.front.lines();
     while let Some(turn) = take_first(work) {
@@ -119,6 +132,12 @@ pub fn find_next<L: Ledger>(
         (IsNext (setting_in scene.now) (state_in scene.now))) }
     ensures none { IfOk result (λ found. IfNone found
         (NothingApplies (setting_in scene.now) (state_in scene.now))) }
+    ensures few { steps.new ≤ steps.old + due_in scene.now refusals.old }
+    ensures found { OnOk result (steps.new + due_in scene.now refusals.new
+        ≤ steps.old + due_in scene.now refusals.old + 1) }
+    ensures refused { IfOk result (λ found. IfNone found
+        (steps.new + due_in scene.now refusals.new
+        ≤ steps.old + due_in scene.now refusals.old)) }
 {
     let mut work = worklist_from(alloc, scene, refusals, known.take())?;
     let found = next_in(alloc, scene, refusals, &mut work, steps)?;

@@ -1,25 +1,26 @@
 // What an application touches, and what is forgotten of it.
-ghost use Rattle.std.specs.Prelude.{◌≡◌, ◌≤ℤ◌, ◌++◌, length, All};
+ghost use Rattle.std.specs.Prelude.{ℤ, ◌≡◌, ◌≤ℤ◌, ◌++◌, length, All, IfOk};
 ghost use Rattle.std.specs.List.{AllByRecursion};
 ghost use Rattle.grid_geom.specs.Boxes.{DoBoundsMeet};
+ghost use Rattle.grid_geom.specs.declared.Bounds.{Bounds as AnyBounds};
 ghost use Rattle.rule_match.specs.Near.{whole_grid};
 ghost use Rattle.state_law.specs.State.{IsListed, point_at};
-ghost use Rattle.front_chain.specs.Front.{state_of};
 ghost use Rattle.mesh_run.specs.Worklist.{AreTriedAgain};
-ghost use Rattle.mesh_run.specs.Remembered.{AreForgotten, IsForgotten, IsForgottenNear, IsInArea, IsWider};
+ghost use Rattle.mesh_run.specs.Remembered.{AreForgotten, AreHits, IsForgotten, IsInArea, IsWider};
 
 use super::Application;
 use super::refusals::{Refusals, Region, noted_at};
 use super::worklist::{Worklist, try_again};
-use digital_tree::{Entry, Key, Tree};
+use digital_tree::{Entry, Key};
 use front_chain::Front;
 use grid_geom::{Bounds, Element, GRID, Point};
-use std::alloc::Global;
+use std::alloc::{AllocError as OutOfMemory, Global};
 
 /// The lesser of two coordinates.
 fn lesser(a: &i64, b: &i64) -> i64
     ensures first { result ≤ℤ a.now }
     ensures second { result ≤ℤ b.now }
+    ensures greatest { (c : ℤ) → c ≤ℤ a.now → c ≤ℤ b.now → c ≤ℤ result }
 {
     if *a < *b { *a } else { *b }
 }
@@ -28,14 +29,17 @@ fn lesser(a: &i64, b: &i64) -> i64
 fn greater(a: &i64, b: &i64) -> i64
     ensures first { a.now ≤ℤ result }
     ensures second { b.now ≤ℤ result }
+    ensures least { (c : ℤ) → a.now ≤ℤ c → b.now ≤ℤ c → result ≤ℤ c }
 {
     if *a < *b { *b } else { *a }
 }
 
-/// The box, widened so that it holds the place.
+/// The box, widened as little as holds the place.
 fn widened(area: &Bounds, p: &Point) -> Bounds
     ensures holds { IsInArea result p.now }
     ensures wider { IsWider area.now result }
+    ensures least { (other : AnyBounds) → IsWider area.now other → IsInArea other p.now →
+        IsWider result other }
 {
     Bounds {
         lo: Point {
@@ -62,11 +66,14 @@ fn corner_of(front: &Front, made: &[Point], n: u64) -> Point
     }
 }
 
-/// The box, widened so that it holds the element's corners.
+/// The box, widened as little as holds the element's corners.
 fn with_element(area: &Bounds, front: &Front, made: &[Point], element: &[u64]) -> Bounds
     requires { AllByRecursion (IsListed (length (front.now.points ++ made.now))) element.now }
     ensures wider { IsWider area.now result }
     ensures holds { All (λ n. IsInArea result (point_at (front.now.points ++ made.now) n)) element.now }
+    ensures least { (other : AnyBounds) → IsWider area.now other →
+        All (λ n. IsInArea other (point_at (front.now.points ++ made.now) n)) element.now →
+        IsWider result other }
 {
     let mut wide = *area;
     for n in element {
@@ -75,11 +82,15 @@ fn with_element(area: &Bounds, front: &Front, made: &[Point], element: &[u64]) -
     wide
 }
 
-/// A box that holds the corners of all these elements.
-pub fn area_of(front: &Front, made: &[Point], elements: &[Element]) -> Bounds
+/// The least box that holds the corners of all these elements: a box on the grid.
+fn area_of(front: &Front, made: &[Point], elements: &[Element]) -> Bounds
     requires { AllByRecursion (λ ns. AllByRecursion (IsListed (length (front.now.points ++ made.now))) ns) elements.now }
     ensures holds { All (λ ns. All (λ n. IsInArea result (point_at (front.now.points ++ made.now) n)) ns) elements.now }
     ensures on_grid { DoBoundsMeet result whole_grid }
+    ensures least { (other : AnyBounds) → DoBoundsMeet other whole_grid →
+        All (λ ns. All (λ n. IsInArea other
+        (point_at (front.now.points ++ made.now) n)) ns) elements.now →
+        IsWider result other }
 {
     let mut area = Bounds {
         lo: Point { x: GRID, y: GRID },
@@ -89,6 +100,31 @@ pub fn area_of(front: &Front, made: &[Point], elements: &[Element]) -> Bounds
         area = with_element(&area, front, made, element.as_slice());
     }
     area
+}
+
+/// The entries whose boxes meet the box of the application's elements: what was looked at where it changes
+/// something.
+///
+/// Errors: want of memory for their list.
+pub fn hits_near(
+    alloc: Global,
+    refusals: &Refusals,
+    front: &Front,
+    application: &Application,
+) -> Result<Vec<Entry<Region>>, OutOfMemory>
+    requires { AllByRecursion (λ ns. AllByRecursion
+        (IsListed (length (front.now.points ++ application.now.made))) ns)
+        application.now.elements }
+    ensures { IfOk result (λ hits. AreHits (front.now.points ++ application.now.made)
+        application.now.elements refusals.now.regions.entries hits.items) }
+{
+    let (made, elements) = (application.made.as_slice(), application.elements.as_slice());
+    let area = area_of(front, made, elements);
+    // no two regions have one key
+    let _none = refusals.regions.get(Key { slot: 0 });
+    let mut hits = Vec::new(alloc);
+    refusals.regions.push_hits(&area, &mut hits)?;
+    Ok(hits)
 }
 
 /// Forgets what is known by looking at the entry's box, and has its line tried again from the entry's class
@@ -107,8 +143,9 @@ fn forget(refusals: &mut Refusals, work: &mut Option<Worklist>, hit: &Entry<Regi
     }
 }
 
-/// Forgets what is known by looking at these entries' boxes.
-fn forget_all(refusals: &mut Refusals, work: &mut Option<Worklist>, hits: &[Entry<Region>])
+/// Forgets what is known by looking at these entries' boxes, and has the lines tried again of which
+/// something is forgotten. It takes no memory that it can't do without.
+pub fn forget_all(refusals: &mut Refusals, work: &mut Option<Worklist>, hits: &[Entry<Region>])
     ensures forgotten { AreForgotten hits.now refusals.old refusals.new }
     ensures again { AreTriedAgain
         (record { least = refusals.old.least.items; work = work.old })
@@ -116,39 +153,5 @@ fn forget_all(refusals: &mut Refusals, work: &mut Option<Worklist>, hits: &[Entr
 {
     for hit in hits {
         forget(refusals, work, hit);
-    }
-}
-
-/// Forgets what is known by looking at boxes that meet the box of the application's elements, and has the
-/// lines tried again of which something is forgotten. Where there is no memory for these boxes' list, all is
-/// forgotten.
-pub fn forget_near(
-    alloc: Global,
-    refusals: &mut Refusals,
-    work: &mut Option<Worklist>,
-    front: &Front,
-    application: &Application,
-)
-    requires { AllByRecursion (λ ns. AllByRecursion
-        (IsListed (length (front.now.points ++ application.now.made))) ns)
-        application.now.elements }
-    ensures forgotten { IsForgottenNear (state_of front.now) application.now
-        refusals.old refusals.new }
-    ensures again { AreTriedAgain
-        (record { least = refusals.old.least.items; work = work.old })
-        (record { least = refusals.new.least.items; work = work.new }) }
-{
-    let (made, elements) = (application.made.as_slice(), application.elements.as_slice());
-    let area = area_of(front, made, elements);
-    // no two regions have one key
-    let _none = refusals.regions.get(Key { slot: 0 });
-    let mut hits = Vec::new(alloc);
-    match refusals.regions.push_hits(&area, &mut hits) {
-        Ok(()) => forget_all(refusals, work, hits.as_slice()),
-        Err(_) => {
-            refusals.least.clear();
-            refusals.regions = Tree::new(alloc);
-            *work = None;
-        }
     }
 }

@@ -20,6 +20,7 @@ loop-turn-preserved g c =
     let f = c.args.scene.now.front.now in let refused = c.loop-turn.refusals.least.items in let last = c.args.scene.now.last in
     record {
       remembered = c.loop-turn.invariant.remembered;
+      few = c.loop-turn.invariant.few;
       to_try = not_missed f.lines refused last c.in-Some.turn c.take_first.new.work f.next c.lines-lines.ensures.holds.rising
           (taken_off f.lines refused last c.in-Some.turn c.loop-turn.work c.take_first.new.work c.loop-turn.invariant.to_try c.in-Some.ensures.others) (λ o. no (c.if-is_open.ensures.1 o));
     }
