@@ -7,6 +7,7 @@ ghost use Rattle.std.specs.Prelude.{◌≡◌, ◌↔◌, ◌⊎◌, ◌≤◌, 
 ghost use Rattle.mesh_check.specs.declared.sides.Side.{Side};
 ghost use Rattle.mesh_check.specs.Balance.{element_sides, row_sides, net_of, IsUpto, AreAscending, IsFirstDifference, IsLeastDifference};
 
+use crate::keys::are_even;
 use crate::sides::{Side, count, sides_of_elements, sides_of_rows, turned, with_turned};
 use std::alloc::{AllocError as OutOfMemory, Global};
 use vol_format::{EdgeRow, MeshElement};
@@ -63,6 +64,9 @@ pub fn least_difference(
     ensures some { IfOk result (λ found. IfSome found
         (IsLeastDifference (element_sides elements.now) (row_sides rows.now))) }
 {
+    if are_even(alloc, elements, rows)? {
+        return Ok(None);
+    }
     let sides = sides_of_elements(alloc, elements)?;
     let edges = sides_of_rows(alloc, rows)?;
     let mut all = with_turned(alloc, &sides, &edges)?;

@@ -16,6 +16,7 @@ mod checking;
 mod difference;
 mod elements;
 mod hanging;
+mod keys;
 pub mod laws;
 mod near;
 mod rows;
