@@ -1,6 +1,7 @@
 // Where the sides of elements and the edges of boundaries differ.
 //
-// Put the element sides into a list, and each boundary's edges turned: where both agree it holds each
+// In most meshes that are whole, sides are in pairs with their turns, and no more is asked (`keys`). Else
+// put the element sides into a list, and each boundary's edges turned: where both agree it holds each
 // side as often as its turn. So the list and that of all turns, both sorted, are equal, or differ first
 // at the least side of which elements and boundaries have different numbers.
 ghost use Rattle.std.specs.Prelude.{◌≡◌, ◌↔◌, ◌⊎◌, ◌≤◌, length, pos, ◌-ℤ◌, IsTrue, IfOk, IfSome, IfNone};
