@@ -9,6 +9,7 @@
 -- OpenSides: points in open sides.
 -- SliceParts: a slice as its first item and the rest.
 -- SideCounts: how often sides stand in lists.
+-- Paired: keys of sides in pairs.
 -- Numbered: sides by numbers and by places.
 -- Domains: domains are above 0; what the search for a difference answers.
 -- Seen: lists as the check sees them.
@@ -27,6 +28,7 @@ pub mod Kept
 pub mod OpenSides
 pub mod SliceParts
 pub mod SideCounts
+pub mod Paired
 pub mod Numbered
 pub mod Domains
 pub mod Seen

@@ -8,7 +8,7 @@ pub mod Parts
 pub mod Walked
 pub mod Whole
 pub mod Verdict
--- What the code keeps on the way. Spots: points by their places. Least: least pairs. Stands: where a walk stands. Near: points and edges in trees by their boxes. Hung: points in open sides of one element. Balance: sides by numbers.
+-- What the code keeps on the way. Spots: points by their places. Least: least pairs. Stands: where a walk stands. Near: points and edges in trees by their boxes. Hung: points in open sides of one element. Balance: sides by numbers. Keys: sides as single numbers.
 pub mod Partition
 pub mod Spots
 pub mod Least
@@ -16,4 +16,5 @@ pub mod Stands
 pub mod Near
 pub mod Hung
 pub mod Balance
+pub mod Keys
 pub mod Tight

@@ -1,12 +1,14 @@
 // Where the sides of elements and the edges of boundaries differ.
 //
-// Put the element sides into a list, and each boundary's edges turned: where both agree it holds each
+// In most meshes that are whole, sides are in pairs with their turns, and no more is asked (`keys`). Else
+// put the element sides into a list, and each boundary's edges turned: where both agree it holds each
 // side as often as its turn. So the list and that of all turns, both sorted, are equal, or differ first
 // at the least side of which elements and boundaries have different numbers.
 ghost use Rattle.std.specs.Prelude.{◌≡◌, ◌↔◌, ◌⊎◌, ◌≤◌, length, pos, ◌-ℤ◌, IsTrue, IfOk, IfSome, IfNone};
 ghost use Rattle.mesh_check.specs.declared.sides.Side.{Side};
 ghost use Rattle.mesh_check.specs.Balance.{element_sides, row_sides, net_of, IsUpto, AreAscending, IsFirstDifference, IsLeastDifference};
 
+use crate::keys::are_even;
 use crate::sides::{Side, count, sides_of_elements, sides_of_rows, turned, with_turned};
 use std::alloc::{AllocError as OutOfMemory, Global};
 use vol_format::{EdgeRow, MeshElement};
@@ -63,6 +65,9 @@ pub fn least_difference(
     ensures some { IfOk result (λ found. IfSome found
         (IsLeastDifference (element_sides elements.now) (row_sides rows.now))) }
 {
+    if are_even(alloc, elements, rows)? {
+        return Ok(None);
+    }
     let sides = sides_of_elements(alloc, elements)?;
     let edges = sides_of_rows(alloc, rows)?;
     let mut all = with_turned(alloc, &sides, &edges)?;
