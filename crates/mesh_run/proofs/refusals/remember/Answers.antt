@@ -27,5 +27,5 @@ pub returns-clause-fewer : goal.returns-clause-fewer
 returns-clause-fewer c =
     let before = c.args.refusals.now.least.items in let after = c.note.new.table.items in
     on_ok c.note.result (λ (there : slice_index_or after c.args.line 0 ≡ c.args.class + 1) is_open.
-        one_less c.args.scene.now.last before c.args.scene.now.front.now.lines (c.args.class, c.args.line) is_open after c.requires.first
-        (subst (λ (table : List ℕ). IsNoted table after c.args.line (c.args.class + 1)) c.hold.ensures.least c.note.ensures.noted) there) c.note.ensures.there
+    one_less c.args.scene.now.last before c.args.scene.now.front.now.lines (c.args.class, c.args.line) is_open after c.requires.first
+    (subst (λ (table : List ℕ). IsNoted table after c.args.line (c.args.class + 1)) c.hold.ensures.least c.note.ensures.noted) there) c.note.ensures.there
