@@ -1,12 +1,12 @@
 -- The mesh of a run that is done is whole: its points have different places, its edge rows walk the segments, each element is one of its domain's last state, so it is turned, no mesh point hangs in its sides, and in each domain sides and rows agree, since no front is left.
-use Rattle.std.proofs.Common.{◌≡◌, ℕ, zero, suc, ◌+◌, ◌-◌, ◌<◌, ◌≤◌, ◌==◌, ◌||◌, Bool, true, false, cond, List, [], ◌∷◌, ◌++◌, map, filter, length, slice_index_or, None, refl, sym, ap, ◌∙◌, subst, arith, inl, inr, ◌⊎◌, true≢false, pos}
+use Rattle.std.proofs.Common.{◌≡◌, ℕ, zero, suc, ◌+◌, ◌<◌, ◌==◌, ◌||◌, Bool, true, false, cond, List, [], ◌∷◌, ◌++◌, map, filter, length, slice_index_or, None, refl, sym, ap, ◌∙◌, subst, arith, inl, inr, ◌⊎◌, true≢false, pos}
 use Rattle.std.specs.Prelude.{nat_eq}
-use Rattle.std.specs.List.{All, AllByRecursion, AllZip, Any, Contains, flat_map, list_any}
+use Rattle.std.specs.List.{All, AllByRecursion, AllZip, Contains, flat_map, list_any}
 use Rattle.std.proofs.lemmas.List.{get_or_default, get_or-map, length-map}
-use Rattle.std.proofs.lemmas.List.Elements.{All-from_recursion, recursion_from_All}
+use Rattle.std.proofs.lemmas.List.Elements.{recursion_from_All}
 use Rattle.grid_geom.specs.declared.Point.{Point}
 use Rattle.grid_geom.specs.declared.Edge.{Edge}
-use Rattle.grid_geom.specs.Polygon.{sides, IsStrictlyConvex}
+use Rattle.grid_geom.specs.Polygon.{sides}
 use Rattle.grid_geom.specs.Sides.{IsOnOpen}
 use Rattle.geom_check.specs.Boundary.{edges_of}
 use Rattle.geom_check.specs.declared.kinds.Domain.{Domain}
@@ -17,7 +17,7 @@ use Rattle.state_law.specs.Free.{IsIn}
 use Rattle.state_law.specs.Kept.{all_sides}
 use Rattle.state_law.specs.Net.{net}
 use Rattle.state_law.specs.Saved.{IsElement, IsElementCorner, IsFrontPoint}
-use Rattle.state_law.specs.State.{State, corners_of, front_edges, pair_edge}
+use Rattle.state_law.specs.State.{corners_of, front_edges, pair_edge}
 use Rattle.state_law.proofs.Foreign.{foreign_hanging}
 use Rattle.state_law.proofs.Lists.{all_append, all_map}
 use Rattle.state_law.proofs.Saved.{element_convex}
@@ -33,7 +33,7 @@ use Rattle.mesh_run.specs.declared.Options.{Options}
 use Rattle.mesh_run.specs.declared.WholeRun.{WholeRun}
 use Rattle.mesh_run.specs.declared.domain_run.DomainRun.{DomainRun}
 use Rattle.mesh_run.specs.Conform.{placed_state}
-use Rattle.mesh_run.specs.Mesh.{edge_row, elements_from, elements_of, mesh_element, mesh_of_run, new_points, whole_points}
+use Rattle.mesh_run.specs.Mesh.{edge_row, elements_from, elements_of, mesh_element, mesh_of_run, new_points}
 use Rattle.mesh_run.specs.Opening.{mesh_points}
 use Rattle.mesh_run.specs.Reached.{elements_at, front_at}
 use Rattle.mesh_run.specs.Runs.{opening_of, pieces_by, IsDomainRun, IsWholeRun}

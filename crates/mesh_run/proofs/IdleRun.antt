@@ -1,5 +1,5 @@
 -- A run by rules that never apply is its opening.
-use Rattle.std.proofs.Common.{ℕ, ◌≡◌, ◌≢◌, ◌≤◌, List, [], ◌∷◌, length, Option, None, Some, refl, sym, subst, arith}
+use Rattle.std.proofs.Common.{ℕ, ◌≡◌, List, [], ◌∷◌, Option, None, Some, refl, arith}
 use Rattle.rule_reader.specs.declared.rule.Rule.{Rule}
 use Rattle.geom_check.specs.Geometry.{PlanarMap}
 use Rattle.rule_match.specs.Idle.{NoneApplies}

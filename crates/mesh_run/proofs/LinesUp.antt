@@ -1,5 +1,5 @@
 -- A search that takes the front lines by rising numbers passes no line: between a line and the least one above it no number is that of a line.
-use Rattle.std.proofs.Common.{◌≡◌, ℕ, zero, suc, ◌-◌, ◌<◌, ◌≤◌, ◌⊎◌, inl, inr, Bool, true, false, cond, List, [], ◌∷◌, length, slice_index_or, refl, sym, ap, subst, Option, Some, None, nat_lt, is_some, arith, BTreeSet}
+use Rattle.std.proofs.Common.{◌≡◌, ℕ, zero, suc, ◌<◌, ◌≤◌, ◌⊎◌, inl, inr, Bool, true, false, cond, List, [], ◌∷◌, length, slice_index_or, refl, sym, ap, subst, Option, Some, None, nat_lt, is_some, arith, BTreeSet}
 use Rattle.std.specs.Option.{option_map}
 use Rattle.std.specs.List.{AllByRecursion, Contains, find}
 use Rattle.state_law.specs.State.{AreRising}

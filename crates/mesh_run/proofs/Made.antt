@@ -1,5 +1,5 @@
 -- Each new point of a run is a corner of an element of the state in the end: a live rule has no idle point, so the application that makes a point has an element there; and elements stay.
-use Rattle.std.proofs.Common.{◌≡◌, ℕ, zero, suc, ◌+◌, ◌-◌, ◌<◌, ◌≤◌, List, [], ◌∷◌, ◌++◌, map, length, slice_index_or, refl, sym, ap, ◌∙◌, subst, arith, inl, inr, ◌⊎◌, pos}
+use Rattle.std.proofs.Common.{◌≡◌, ℕ, zero, suc, ◌+◌, ◌-◌, ◌<◌, List, [], ◌∷◌, ◌++◌, map, length, slice_index_or, refl, sym, ap, ◌∙◌, subst, arith, inl, inr, ◌⊎◌, pos}
 use Rattle.std.specs.List.{AllByRecursion, Contains}
 use Rattle.std.proofs.lemmas.List.{get_or_default, get_or-append-add, length-map, map-append}
 use Rattle.std.proofs.lemmas.List.Elements.{recursion_from_All}
@@ -9,18 +9,15 @@ use Rattle.state_law.specs.Saved.{IsCorner, IsElementCorner}
 use Rattle.state_law.specs.State.{State, corners_of, point_at, IsListed}
 use Rattle.state_law.proofs.Lists.{all_map, all_append}
 use Rattle.admission.proofs.Order.{same_points}
-use Rattle.rule_reader.specs.declared.rule.Rule.{Rule}
 use Rattle.rule_reader.specs.Normal.{CanPrint, IsRule}
-use Rattle.rule_maps.specs.Inert.{HasIdlePoint}
 use Rattle.rule_match.specs.declared.application.Application.{Application}
-use Rattle.rule_match.specs.Applied.{application}
 use Rattle.rule_match.specs.Candidate.{Attempt, IsCandidate, IsFrontPoint, elements, made, mapped, mapping}
 use Rattle.rule_match.proofs.FoundParts.{point_listed}
 use Rattle.rule_match.proofs.NewParts.{as_many}
-use Rattle.mesh_run.specs.Reached.{IsReached, MayBeApplied, elements_at}
+use Rattle.mesh_run.specs.Reached.{IsReached, elements_at}
 use Rattle.mesh_run.specs.Steps.{RunSetting, IsNext, AreNext, applied, state_after, with_points}
 use Rattle.mesh_run.proofs.Covered.{may_next, rule_at}
-use Rattle.mesh_run.proofs.Numbers.{AreListed, corners_kept, elements_kept}
+use Rattle.mesh_run.proofs.Numbers.{AreListed, elements_kept}
 use Rattle.mesh_run.proofs.Steps.{AreTriangles, named_elements, reached_after}
 use Rattle.mesh_run.proofs.Written.{all_elements, all_made, elements_after, elements_on, points_after}
 

@@ -2,15 +2,15 @@
 use Rattle.std.proofs.Common.{◌≡◌, ℕ, zero, suc, ◌+◌, ◌-◌, ◌*◌, ◌<◌, ◌≤◌, ◌⊎◌, inl, inr, max, true, Option, None, Some, is_some, List, [], ◌∷◌, ◌++◌, length, slice_index_or, refl, sym, ap, ◌∙◌, subst, arith, append_assoc}
 use Rattle.std.specs.Prelude.{sum}
 use Rattle.std.specs.List.{AllByRecursion, Contains}
-use Rattle.std.proofs.lemmas.List.{append-nil, get_or_past}
+use Rattle.std.proofs.lemmas.List.{get_or_past}
 use Rattle.state_law.specs.State.{State}
 use Rattle.front_chain.specs.Front.{line_at, numbered_from}
 use Rattle.rule_match.specs.declared.application.Application.{Application}
 use Rattle.rule_match.proofs.BaseLines.{line_there}
 use Rattle.mesh_run.specs.Remembered.{AreSameRefusals, IsNoted}
 use Rattle.mesh_run.specs.RunState.{RunBasis, RunState, run_after, setting_by}
-use Rattle.mesh_run.specs.Steps.{RunSetting, applied, state_after}
-use Rattle.mesh_run.specs.Trials.{AreChanged, DoesPayAll, IsChanged, IsPaid, due, due_at}
+use Rattle.mesh_run.specs.Steps.{applied, state_after}
+use Rattle.mesh_run.specs.Trials.{AreChanged, IsChanged, IsPaid, due, due_at}
 use Rattle.mesh_run.specs.Worklist.{IsOpenTurn, least_open}
 use Rattle.mesh_run.proofs.Changed.{changed_push, sum_push}
 use Rattle.mesh_run.proofs.Dues.{total, due_total, no_greater, one_less_at}
@@ -114,14 +114,6 @@ module _ (last : ℕ) (before : List ℕ) (front : List Triple) (turn : ℕ × �
           sums (due last after front) (due last before front) (total (due_at last after) front) (total (due_at last before) front) (due_total last after front) (due_total last before front)
           (less_there (due_at last before) (due_at last after) front line (all front) (line_there front turn.1 ends e) one)
 
--- ---- a step
--- the trial that found an application is paid by it
-pub paid_step : (s : RunSetting) (st : State) (a : Application) (tried left found now later : ℕ) → found + now ≤ tried + left + 1 → IsPaid s st a now (later + 1) → IsPaid s st a (tried + left) (found + later)
-paid_step s st a tried left found now later h p = record { lines = p.lines; changed = p.changed; paid = both (s.last * p.lines) p.paid }
-  where
-    both : (m : ℕ) → later + 1 ≤ now + m → found + later ≤ tried + left + m
-    both m l = omega (arith, h, l)
-
 -- ---- steps one after another
 -- a run that has gone on, with what its applications pay for
 pub record HasPaid (before between : RunState) (budget spent : ℕ) : Type 0 where
@@ -132,28 +124,6 @@ pub record HasPaid (before between : RunState) (budget spent : ℕ) : Type 0 whe
   pub lines : List ℕ
   pub changed : AreChanged (setting_by before.basis) before.state more lines
   pub paid : spent ≤ budget + before.basis.options.last * sum lines
-
--- at first nothing is
-pub none_paid : (r : RunState) (n : ℕ) → HasPaid r r n n
-none_paid r n = record { basis = refl; more = []; applications = sym (append-nil r.applications); state = refl; lines = []; changed = refl; paid = level n r.basis.options.last }
-  where
-    level : (n last : ℕ) → n ≤ n + last * 0
-    level n last = omega arith
-
--- less is spent
-pub spent_less : (before between : RunState) (budget spent later : ℕ) → later ≤ spent → HasPaid before between budget spent → HasPaid before between budget later
-spent_less before between budget spent later l h = record {
-  basis = h.basis;
-  more = h.more;
-  applications = h.applications;
-  state = h.state;
-  lines = h.lines;
-  changed = h.changed;
-  paid = both (budget + before.basis.options.last * sum h.lines) h.paid;
-}
-  where
-    both : (m : ℕ) → spent ≤ m → later ≤ m
-    both m k = omega (arith, l, k)
 
 -- one more application
 pub one_paid : (before between after : RunState) (a : Application) (budget spent later : ℕ) → HasPaid before between budget spent → after ≡ run_after between a → IsPaid (setting_by between.basis) between.state a spent later → HasPaid before after budget later
@@ -173,7 +143,3 @@ one_paid before between after a budget spent later h e p =
   where
     added : (last n k total : ℕ) → total ≡ n + k → spent ≤ budget + last * n → later ≤ spent + last * k → later ≤ budget + last * total
     added last n k total e h l = subst (λ (m : ℕ). later ≤ budget + last * m) (sym e) (omega (arith, h, l))
-
--- so it is with all
-pub all_paid : (before after : RunState) (budget spent : ℕ) → HasPaid before after budget spent → DoesPayAll before after budget spent
-all_paid before after budget spent h = record { more = h.more; applications = h.applications; lines = h.lines; changed = h.changed; paid = h.paid }

@@ -1,5 +1,5 @@
 -- The points of a run's mesh have different places. A new point is a corner of an element of its domain and no end of the domain's pieces: it comes after these in the domain's list of different points. So it is no mesh point of another domain, by the law of places in two domains.
-use Rattle.std.proofs.Common.{◌≡◌, ℕ, zero, suc, ◌+◌, ◌-◌, ◌<◌, ◌≤◌, ◌==◌, ◌||◌, Bool, true, false, List, [], ◌∷◌, ◌++◌, map, filter, drop, length, slice_index_or, None, refl, sym, ap, ◌∙◌, subst, arith, inl, inr, ◌⊎◌, true≢false, pos}
+use Rattle.std.proofs.Common.{◌≡◌, ℕ, zero, suc, ◌-◌, ◌<◌, ◌==◌, ◌||◌, Bool, true, false, List, [], ◌∷◌, ◌++◌, map, drop, length, slice_index_or, None, refl, sym, ap, ◌∙◌, subst, arith, inl, inr, ◌⊎◌, true≢false, pos}
 use Rattle.std.specs.Prelude.{◌≢◌}
 use Rattle.std.specs.List.{All, AllByRecursion, AllZip, IsDistinct, flat_map}
 use Rattle.std.proofs.Math.Seq.{drop-append_seam}
@@ -8,7 +8,7 @@ use Rattle.grid_geom.specs.declared.Point.{Point}
 use Rattle.grid_geom.specs.declared.Edge.{Edge}
 use Rattle.grid_geom.specs.Closed.{same_point}
 use Rattle.geom_check.specs.declared.kinds.Segment.{Segment}
-use Rattle.geom_check.specs.Accepted.{AreTogether, ArePlacesDifferent, HasDifferentDomains}
+use Rattle.geom_check.specs.Accepted.{ArePlacesDifferent, HasDifferentDomains}
 use Rattle.geom_check.specs.Boundary.{back, edges_of, with_edge}
 use Rattle.geom_check.specs.Domains.{domain_numbers, IsRising}
 use Rattle.geom_check.specs.Geometry.{PlanarMap, IsGeometry}

@@ -1,5 +1,5 @@
 -- The edge rows of a run's mesh walk the segments of its geometry: the pieces of each segment lead from its first end to its last, and a piece's ends are mesh points.
-use Rattle.std.proofs.Common.{◌≡◌, ℕ, ◌+◌, List, [], ◌∷◌, ◌++◌, map, length, refl, sym, ap, ◌∙◌, subst, append_assoc, arith, inl, true}
+use Rattle.std.proofs.Common.{◌≡◌, ℕ, ◌+◌, List, [], ◌∷◌, ◌++◌, map, length, refl, sym, ap, ◌∙◌, subst, append_assoc, inl, true}
 use Rattle.std.specs.List.{AllByRecursion}
 use Rattle.std.proofs.lemmas.List.{length_push, map-append}
 use Rattle.grid_geom.specs.declared.Point.{Point}
@@ -15,9 +15,8 @@ use Rattle.size_field.specs.Parts.{IsPart}
 use Rattle.size_field.proofs.Bounds.{segment_after}
 use Rattle.size_field.proofs.Rows.{segments_parts}
 use Rattle.state_law.proofs.Lists.{all_first, all_second}
-use Rattle.vol_format.specs.declared.EdgeRow.{EdgeRow}
 use Rattle.mesh_check.specs.Parts.{row_edge}
-use Rattle.mesh_check.specs.Walked.{DoesMove, IsLabelled, DoesLead, DoWalk, Places, WalksFirst}
+use Rattle.mesh_check.specs.Walked.{DoesMove, DoesLead, DoWalk, Places}
 use Rattle.mesh_run.specs.Mesh.{edge_row}
 use Rattle.mesh_run.specs.Numbering.{ends_of, is_among}
 use Rattle.mesh_run.specs.Opening.{mesh_points}

@@ -1,7 +1,7 @@
 -- In the mesh of a run that is done the sides of a domain's elements and the edge rows round it agree: the rows are the boundary in pieces, and the chain that a run keeps has no front left. A domain that no segment names has neither.
-use Rattle.std.proofs.Common.{◌≡◌, ℕ, ◌+◌, ◌-◌, ◌<◌, ◌==◌, ◌||◌, ◌&&◌, None, Bool, true, false, not, List, [], ◌∷◌, ◌++◌, map, length, refl, sym, ap, ◌∙◌, subst, arith, inl, inr, ◌⊎◌, true≢false, ℤ, pos, ◌+ℤ◌}
+use Rattle.std.proofs.Common.{◌≡◌, ℕ, ◌-◌, ◌<◌, ◌==◌, ◌||◌, ◌&&◌, None, Bool, true, false, not, List, [], ◌∷◌, ◌++◌, map, length, refl, sym, ap, ◌∙◌, arith, true≢false, ℤ, pos, ◌+ℤ◌}
 use Rattle.std.specs.Prelude.{nat_eq}
-use Rattle.std.specs.List.{All, AllByRecursion, AllZip, flat_map, list_any}
+use Rattle.std.specs.List.{AllByRecursion, list_any}
 use Rattle.std.proofs.lemmas.Bool.Decides.{Decides-eqb}
 use Rattle.std.proofs.lemmas.Int.{ints}
 use Rattle.grid_geom.specs.declared.Point.{Point}
@@ -12,14 +12,13 @@ use Rattle.geom_check.specs.Domains.{domain_numbers, sides_of}
 use Rattle.geom_check.specs.Geometry.{PlanarMap, IsGeometry}
 use Rattle.geom_check.proofs.DomainNumbers.{numbers_named}
 use Rattle.size_field.specs.declared.pieces.Piece.{Piece}
-use Rattle.size_field.specs.Boundary.{piece_boundary, piece_edge, segment_of, turned_to}
+use Rattle.size_field.specs.Boundary.{piece_boundary, piece_edge, segment_of}
 use Rattle.size_field.specs.Parts.{IsPiece}
 use Rattle.size_field.proofs.AllPieces.{pieces_are}
 use Rattle.state_law.specs.Kept.{all_sides}
 use Rattle.state_law.specs.Net.{net}
 use Rattle.state_law.proofs.Lists.{all_map}
-use Rattle.vol_format.specs.declared.EdgeRow.{EdgeRow}
-use Rattle.mesh_check.specs.Parts.{boundary_rows, row_edge}
+use Rattle.mesh_check.specs.Parts.{boundary_rows}
 use Rattle.mesh_run.specs.declared.Options.{Options}
 use Rattle.mesh_run.specs.Mesh.{edge_row}
 use Rattle.mesh_run.specs.Opening.{mesh_points}

@@ -1,5 +1,5 @@
 // The run of a domain by rules.
-ghost use Rattle.std.specs.Prelude.{◌≡◌, ◌+◌, ◌<◌, ◌↔◌, length, IsTrue, IfOk, IfSome, IfNone, OnOk, OnErr};
+ghost use Rattle.std.specs.Prelude.{◌≡◌, ◌+◌, ◌*◌, ◌<◌, ◌≤◌, ◌↔◌, length, IsTrue, IfOk, IfSome, IfNone, OnOk, OnErr};
 ghost use Rattle.std.specs.List.{Contains};
 ghost use Rattle.geom_check.specs.Domains.{domain_numbers};
 ghost use Rattle.mesh_run.specs.Mesh.{NamesItsPoints};
@@ -7,7 +7,7 @@ ghost use Rattle.mesh_run.specs.Opening.{mesh_points};
 ghost use Rattle.mesh_run.specs.Remembered.{AreCovering};
 ghost use Rattle.mesh_run.specs.Runs.{pieces_by};
 ghost use Rattle.mesh_run.specs.Steps.{IsNext, NothingApplies, IsSpent};
-ghost use Rattle.mesh_run.specs.Trials.{IsPaid};
+ghost use Rattle.mesh_run.specs.Trials.{DoesPay, DoesPayAll, IsPaid};
 
 use super::applying::{copy_of, put};
 use super::ground::Ground;
@@ -84,7 +84,7 @@ impl<'a> Model for Run<'a> {
 impl<'a> Run<'a> {
     ghost use Rattle.mesh_run.specs.RunState.{IsStepped, DoesTakeArea, GoesOn, IsEndOfRun, AreOptions, area_left, domain_run, opened_run, setting_by, run_after};
 
-    /// The run of a domain before its first application.
+    /// The run of a domain before its first application. Each opening line is due at each class.
     pub fn open_on(
         alloc: Global,
         ground: &Ground<'_, 'a>,
@@ -96,8 +96,10 @@ impl<'a> Run<'a> {
             ≡ pieces_by ground.now.geometry.now ground.now.options.now }
         requires mesh { ground.now.mesh.now ≡ mesh_points ground.now.pieces.now }
         requires reaches { AreCovering ground.now.rules.now ground.now.reaches.now }
-        ensures { IfOk result (λ run. run.run ≡ opened_run ground.now.geometry.now ground.now.rules.now
-            ground.now.options.now domain) }
+        ensures run { IfOk result (λ run. run.run ≡ opened_run ground.now.geometry.now
+            ground.now.rules.now ground.now.options.now domain) }
+        ensures due { IfOk result (λ run. run.due
+            ≡ ground.now.options.now.last * length run.run.basis.lines) }
     {
         let geometry = ground.geometry;
         let options = ground.options;
@@ -129,7 +131,7 @@ impl<'a> Run<'a> {
         })
     }
 
-    /// The run of a domain of the geometry before its first application.
+    /// The run of a domain of the geometry before its first application. Each opening line is due at each class.
     ///
     /// The pieces are those into which the options' sizes cut the geometry's segments, the options in
     /// their ranges.
@@ -144,8 +146,10 @@ impl<'a> Run<'a> {
         requires domain { Contains (domain_numbers geometry.now.segments) domain }
         requires options { AreOptions options.now }
         requires pieces { pieces.now ≡ pieces_by geometry.now options.now }
-        ensures { IfOk result (λ run. run.run
+        ensures run { IfOk result (λ run. run.run
             ≡ opened_run geometry.now rules.now options.now domain) }
+        ensures due { IfOk result (λ run. run.due
+            ≡ options.now.last * length run.run.basis.lines) }
     {
         let mesh = number_mesh(alloc, pieces.as_slice())?.points(alloc)?;
         let reaches = reaches_of(alloc, rules)?;
@@ -168,10 +172,16 @@ impl<'a> Run<'a> {
         steps: &mut Steps<L>,
     ) -> Result<Option<Application>, OutOfMemory>
         ensures next { IfOk result
-            (λ found. IfSome found (IsNext (setting_by self.old.run.basis) self.old.run.state)) }
+            (λ found. IfSome found
+            (IsNext (setting_by self.old.run.basis) self.old.run.state)) }
         ensures none { IfOk result
-            (λ found. IfNone found (NothingApplies (setting_by self.old.run.basis) self.old.run.state)) }
+            (λ found. IfNone found
+            (NothingApplies (setting_by self.old.run.basis) self.old.run.state)) }
         ensures stands { self.new.run ≡ self.old.run }
+        ensures few { steps.new ≤ steps.old + self.old.due }
+        ensures found { OnOk result (steps.new + self.new.due ≤ steps.old + self.old.due + 1) }
+        ensures refused { IfOk result (λ found. IfNone found
+            (steps.new + self.new.due ≤ steps.old + self.old.due)) }
     {
         let scene = Scene {
             front: &self.front,
@@ -213,7 +223,10 @@ impl<'a> Run<'a> {
     /// Makes the next application, or says that there is none: since no front is left, or since nothing
     /// applies to the front that is. It doesn't look at the limit.
     ///
-    /// Errors: want of memory, and then the run is as before.
+    /// What it makes of trials, calls of `best`, and what is then due, are together no more than was due; but
+    /// for each line that joins or is touched as many more are due as there are classes.
+    ///
+    /// Errors: want of memory, and then the run is as before, and no more trials were made than were due.
     pub fn step<L: Ledger>(
         &mut self,
         alloc: Global,
@@ -221,7 +234,10 @@ impl<'a> Run<'a> {
     ) -> Result<Stepped, OutOfMemory>
         ensures stepped { IfOk result (IsStepped self.old.run self.new.run) }
         ensures falls { IfOk result (DoesTakeArea self.old.run self.new.run) }
+        ensures pays { IfOk result (DoesPay self.old.run (steps.old + self.old.due)
+            (steps.new + self.new.due)) }
         ensures stands { OnErr result (self.new.run ≡ self.old.run) }
+        ensures few { OnErr result (steps.new ≤ steps.old + self.old.due) }
     {
         if self.front.lines() == 0 {
             return Ok(Stepped::Done);
@@ -252,6 +268,7 @@ impl<'a> Run<'a> {
         requires { IsSpent self.old.run.basis.options.limit (length self.old.run.applications) }
         ensures ended { IfOk result (IsEndOfRun self.old.run) }
         ensures stands { self.new.run ≡ self.old.run }
+        ensures few { steps.new ≤ steps.old + self.old.due }
     {
         if self.front.lines() == 0 {
             return Ok(End::Done);
@@ -263,7 +280,9 @@ impl<'a> Run<'a> {
     }
 
     /// Makes one application after another until no front is left, nothing applies, or as many were made
-    /// as are allowed. Each takes at least 1 from the front's doubled area, so it ends.
+    /// as are allowed. Each takes at least 1 from the front's doubled area, so it ends. No more trials, calls
+    /// of `best`, are made than were due, and for each line that joins or is touched as many as there are
+    /// classes.
     ///
     /// Errors: want of memory, and then the run has gone on as far as memory went.
     pub fn run<L: Ledger>(
@@ -273,6 +292,7 @@ impl<'a> Run<'a> {
     ) -> Result<End, OutOfMemory>
         ensures goes_on { GoesOn self.old.run self.new.run }
         ensures ended { IfOk result (IsEndOfRun self.new.run) }
+        ensures pays { DoesPayAll self.old.run self.new.run (steps.old + self.old.due) steps.new }
     {
         while !self.is_spent() {
             match self.step(alloc, steps)? {

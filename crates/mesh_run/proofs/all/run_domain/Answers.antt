@@ -15,7 +15,7 @@ returns-clause-run g c =
     let ground = c.args.ground.now in let after = c.run.new.self.run in
     of_ok _ _ c.into_domain_run.result c.into_domain_run.ensures.run
     (ended_run ground.geometry.now ground.rules.now ground.options.now c.args.domain after c.in_ok-end.end
-    (subst (λ (r : RunState). GoesOn r after) c.in_ok-run.ensures c.in_ok-end.ensures.goes_on) c.in_ok-end.ensures.ended)
+    (subst (λ (r : RunState). GoesOn r after) c.in_ok-run.ensures.run c.in_ok-end.ensures.goes_on) c.in_ok-end.ensures.ended)
 
 named_ok : {E : Type 0} (x : DomainRun) (r : Result DomainRun E) → IfOk r (λ y. y ≡ x) → OnOk r (NamesItsPoints x) → IfOk r NamesItsPoints
 named_ok x (Ok y) e names = subst NamesItsPoints (sym e) names

@@ -1,4 +1,4 @@
-use Rattle.std.proofs.Common.{ℕ, Option, None, sym, subst, BTreeSet}
+use Rattle.std.proofs.Common.{None, sym, subst}
 use Rattle.admission.specs.Around.{IsThere}
 use Rattle.admission.proofs.Ahead.{there_above}
 use Rattle.mesh_run.proofs.LinesUp.{AreOnTo, none_on_yet, one_more_on, still_fewer}

@@ -3,7 +3,7 @@ use Rattle.std.specs.declared.alloc.AllocError.{AllocError}
 use Rattle.rule_match.specs.declared.application.Application.{Application}
 use Rattle.mesh_run.specs.declared.End.{End}
 use Rattle.mesh_run.specs.Steps.{IsNext, NothingApplies}
-use Rattle.mesh_run.specs.RunState.{RunState, IsEndOfRun, setting_by}
+use Rattle.mesh_run.specs.RunState.{IsEndOfRun, setting_by}
 use Rattle.mesh_run.specs.Trials.{RunView}
 use Rattle.mesh_run.proofs.run.Run.end_here.Goals.{in-Some, in-None}
 use Rattle.mesh_run.proofs.run.Run.end_here.Goals as goal

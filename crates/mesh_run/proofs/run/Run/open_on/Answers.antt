@@ -3,7 +3,9 @@ use Rattle.size_field.proofs.AllPieces.{all_pieces}
 use Rattle.front_chain.specs.Front.{numbered_from}
 use Rattle.mesh_run.specs.Opening.{domain_points, opening_lines}
 use Rattle.mesh_run.specs.RunState.{RunParts}
+use Rattle.mesh_run.specs.Trials.{due}
 use Rattle.mesh_run.proofs.OpenedRun.{AreSetUp, set_up, may_open, opened_is, opened_remembers}
+use Rattle.mesh_run.proofs.TrialsMade.{all_due}
 use Rattle.mesh_run.proofs.run.Run.open_on.Goals as goal
 
 pub opening_of-requires-clause-pieces : goal.opening_of-requires-clause-pieces
@@ -43,8 +45,8 @@ invariant_of-result c =
     } in
     opened_remembers c.args.ground.now.geometry.now parts c.args.ground.now.reaches.now c.in_ok-refusals.refusals (set_up c.args.ground.now.geometry.now parts c.segments-segments.result.now c.args.ground.now.pieces.now c.in_ok-opening.opening.points made) c.requires.options c.requires.reaches c.in_ok-refusals.ensures
 
-pub returns : goal.returns
-returns c =
+pub returns-clause-run : goal.returns-clause-run
+returns-clause-run c =
     let parts : RunParts = record {
       domain = c.args.domain;
       options = c.args.ground.now.options.now;
@@ -68,3 +70,8 @@ returns c =
       applications = c.new.ensures.items;
     } in
     opened_is c.args.ground.now.geometry.now parts (set_up c.args.ground.now.geometry.now parts c.segments-segments.result.now c.args.ground.now.pieces.now c.in_ok-opening.opening.points made)
+
+pub returns-clause-due : goal.returns-clause-due
+returns-clause-due c =
+    ap (due c.args.ground.now.options.now.last c.in_ok-refusals.refusals.least.items) (c.in_ok-front.ensures.lines ∙ ap (numbered_from 1) c.as_slice-2.ensures)
+    ∙ all_due c.args.ground.now.options.now.last 1 c.in_ok-refusals.refusals.least.items c.in_ok-opening.opening.lines c.in_ok-refusals.ensures.nothing
