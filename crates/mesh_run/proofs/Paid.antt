@@ -39,6 +39,7 @@ use Rattle.mesh_run.specs.Reached.{MayBeApplied}
 use Rattle.mesh_run.specs.RunState.{RunParts, RunState, run_of, setting_by}
 use Rattle.mesh_run.specs.Steps.{RunSetting, IsNext, applied, with_points}
 use Rattle.mesh_run.specs.Trials.{IsCornerBox, IsPaid, IsReachOfAll, IsTouched, due, due_at, joined, whole_reach}
+use Rattle.mesh_run.proofs.Changed.{times}
 use Rattle.mesh_run.proofs.Dues.{as_before, is_new, paid_front}
 use Rattle.mesh_run.proofs.GoesOn.{IsPushed, put_run, some_elements}
 use Rattle.mesh_run.proofs.HeldAreas.{chained}
@@ -316,10 +317,6 @@ module _ (s : RunSetting) (st : State) (a : Application) (before after : Refusal
         (paid_front s.last before.least.items after.least.items st a t.line counts h.next.best.least.of.on_front base_due (lines_paid (applied st a).front));
   }
     where
-      times : (n j u : ℕ) → n * (j + u) ≡ n * j + n * u
-      times zero j u = omega arith
-      times (suc n) j u = let more = times n j u in omega (arith, more)
-
       spread : (x y j u : ℕ) → x ≤ y + s.last * j + s.last * u → x ≤ y + s.last * (j + u)
       spread x y j u l = let e = times s.last j u in omega (arith, l, e)
 
