@@ -6,7 +6,6 @@ use Rattle.grid_geom.specs.declared.Bounds.{Bounds}
 use Rattle.grid_geom.specs.declared.Point.{Point}
 use Rattle.grid_geom.specs.Boxes.{DoBoundsMeet}
 use Rattle.grid_geom.specs.Bounds.{IsOnGrid}
-use Rattle.digital_tree.specs.declared.Entry.{Entry}
 use Rattle.digital_tree.specs.Entries.{is_hit}
 use Rattle.digital_tree.proofs.Meets.{met}
 use Rattle.rule_reader.specs.declared.rule.Rule.{Rule}
@@ -25,7 +24,6 @@ use Rattle.rule_match.specs.declared.application.Application.{Application}
 use Rattle.rule_match.specs.Applied.{application}
 use Rattle.rule_match.specs.Best.{IsBest}
 use Rattle.rule_match.specs.Candidate.{Attempt, IsCandidate, IsFrontPoint, elements, made, mapping}
-use Rattle.rule_match.specs.Least.{HasNone, IsOf}
 use Rattle.rule_match.specs.Near.{IsCoveredAt, IsCoveredBy, IsReachBox, reach_hi, reach_lo, whole_grid}
 use Rattle.rule_match.specs.Refused.{places_of}
 use Rattle.rule_match.proofs.FoundParts.{point_listed}
@@ -33,7 +31,6 @@ use Rattle.rule_match.proofs.Gathered.{line_numbered}
 use Rattle.rule_match.proofs.NewParts.{as_many}
 use Rattle.rule_match.proofs.WithinReach.{within_reach}
 use Rattle.mesh_run.specs.declared.refusals.Refusals.{Refusals}
-use Rattle.mesh_run.specs.declared.refusals.Region.{Region}
 use Rattle.mesh_run.specs.Remembered.{AreTrue, HasEntryOf, IsForgottenNear, IsInArea}
 use Rattle.mesh_run.specs.Reached.{MayBeApplied}
 use Rattle.mesh_run.specs.RunState.{RunParts, RunState, run_of, setting_by}
