@@ -6,7 +6,6 @@ use Rattle.grid_geom.specs.declared.Bounds.{Bounds}
 use Rattle.grid_geom.specs.declared.Point.{Point}
 use Rattle.grid_geom.specs.Boxes.{DoBoundsMeet}
 use Rattle.grid_geom.specs.Bounds.{IsOnGrid}
-use Rattle.digital_tree.specs.declared.Entry.{Entry}
 use Rattle.digital_tree.specs.Entries.{is_hit}
 use Rattle.digital_tree.proofs.Meets.{met}
 use Rattle.rule_reader.specs.declared.rule.Rule.{Rule}
@@ -25,7 +24,6 @@ use Rattle.rule_match.specs.declared.application.Application.{Application}
 use Rattle.rule_match.specs.Applied.{application}
 use Rattle.rule_match.specs.Best.{IsBest}
 use Rattle.rule_match.specs.Candidate.{Attempt, IsCandidate, IsFrontPoint, elements, made, mapping}
-use Rattle.rule_match.specs.Least.{HasNone, IsOf}
 use Rattle.rule_match.specs.Near.{IsCoveredAt, IsCoveredBy, IsReachBox, reach_hi, reach_lo, whole_grid}
 use Rattle.rule_match.specs.Refused.{places_of}
 use Rattle.rule_match.proofs.FoundParts.{point_listed}
@@ -33,12 +31,12 @@ use Rattle.rule_match.proofs.Gathered.{line_numbered}
 use Rattle.rule_match.proofs.NewParts.{as_many}
 use Rattle.rule_match.proofs.WithinReach.{within_reach}
 use Rattle.mesh_run.specs.declared.refusals.Refusals.{Refusals}
-use Rattle.mesh_run.specs.declared.refusals.Region.{Region}
 use Rattle.mesh_run.specs.Remembered.{AreTrue, HasEntryOf, IsForgottenNear, IsInArea}
 use Rattle.mesh_run.specs.Reached.{MayBeApplied}
 use Rattle.mesh_run.specs.RunState.{RunParts, RunState, run_of, setting_by}
 use Rattle.mesh_run.specs.Steps.{RunSetting, IsNext, applied, with_points}
 use Rattle.mesh_run.specs.Trials.{IsCornerBox, IsPaid, IsReachOfAll, IsTouched, due, due_at, joined, whole_reach}
+use Rattle.mesh_run.proofs.Changed.{times}
 use Rattle.mesh_run.proofs.Dues.{as_before, is_new, paid_front}
 use Rattle.mesh_run.proofs.GoesOn.{IsPushed, put_run, some_elements}
 use Rattle.mesh_run.proofs.HeldAreas.{chained}
@@ -316,10 +314,6 @@ module _ (s : RunSetting) (st : State) (a : Application) (before after : Refusal
         (paid_front s.last before.least.items after.least.items st a t.line counts h.next.best.least.of.on_front base_due (lines_paid (applied st a).front));
   }
     where
-      times : (n j u : ℕ) → n * (j + u) ≡ n * j + n * u
-      times zero j u = omega arith
-      times (suc n) j u = let more = times n j u in omega (arith, more)
-
       spread : (x y j u : ℕ) → x ≤ y + s.last * j + s.last * u → x ≤ y + s.last * (j + u)
       spread x y j u l = let e = times s.last j u in omega (arith, l, e)
 

@@ -11,6 +11,7 @@
 -- joined                the front lines that join by an application; AreTouched, some that it touches
 -- IsChanged             how many lines join by an application or are touched; AreChanged, over applications one after another
 -- IsPaid                trials and what is due, over one application; DoesPay, over a step; DoesPayAll, over a run
+-- AreBounded            the trials of a run as opened are no more than the classes times the lines
 use Rattle.std.specs.Prelude.{ℕ, ◌≡◌, ◌+◌, ◌-◌, ◌*◌, ◌≤◌, Bool, not, nat_lt, List, [], ◌∷◌, ◌++◌, length, filter, sum}
 use Rattle.std.specs.List.{AllByRecursion}
 use Rattle.grid_geom.specs.declared.Bounds.{Bounds}
@@ -123,3 +124,11 @@ pub record DoesPayAll (before after : RunState) (budget tried : ℕ) : Type 0 wh
   pub lines : List ℕ
   pub changed : AreChanged (setting_by before.basis) before.state more lines
   pub paid : tried ≤ budget + before.basis.options.last * sum lines
+
+-- ---- the promise
+-- a run as opened has made at most as many trials as there are classes for each opening line, and for each line by each application by which it joined or that
+-- touched it
+pub record AreBounded (opened after : RunState) (trials : ℕ) : Type 0 where
+  pub lines : List ℕ
+  pub changed : AreChanged (setting_by opened.basis) opened.state after.applications lines
+  pub bounded : trials ≤ opened.basis.options.last * (length opened.basis.lines + sum lines)

@@ -1,6 +1,6 @@
 //! The laws of openings and runs, each as the contract of a function that does nothing.
 
-ghost use Rattle.std.specs.Prelude.{◌≡◌, ◌<◌, ◌≤◌, ℕ, List, All, length, take, true, Option, None, [], ◌↔◌, ◌≢◌};
+ghost use Rattle.std.specs.Prelude.{◌≡◌, ◌+◌, ◌-◌, ◌*◌, ◌<◌, ◌≤◌, ℕ, List, All, length, take, true, Option, None, [], ◌↔◌, ◌≢◌};
 ghost use Rattle.std.specs.List.{AllByRecursion, AllZip, Contains, IsDistinct};
 ghost use Rattle.rule_maps.specs.Frame.{LocalFrame};
 ghost use Rattle.size_field.specs.Size.{SizeField};
@@ -31,6 +31,8 @@ ghost use Rattle.mesh_run.specs.Opening.{domain_points, front_edges, front_from,
 ghost use Rattle.mesh_run.specs.Runs.{opening_of, opening_state, setting_of, IsDomainRun, IsWholeRun};
 ghost use Rattle.mesh_run.specs.Reached.{IsReached, MayBeApplied, front_at};
 ghost use Rattle.mesh_run.specs.Steps.{applied, AreNext, IsEndOf, IsNext, NothingApplies, RunSetting, state_after};
+ghost use Rattle.mesh_run.specs.RunState.{RunState};
+ghost use Rattle.mesh_run.specs.Trials.{AreBounded, DoesPayAll, RunView};
 ghost use Rattle.mesh_run.specs.Sum.{AreCovered, IsCovered};
 ghost use Rattle.mesh_check.specs.Whole.{IsWhole};
 ghost use Rattle.mesh_run.specs.Conform.{AreConforming, states_at};
@@ -257,4 +259,15 @@ pub fn law_done()
     ensures { (g : PlanarMap) (rules : List Rule) (options : Options) (w : WholeRun) →
         IsGeometry g → CanPrint rules → IsWholeRun g rules options w → w.end ≡ Done →
         IsWhole g (mesh_of_run w g.segments) }
+{}
+
+/// A run as opened makes at most as many trials as there are classes for each opening line, and for each line by
+/// each application by which it joins or that touches it. What is due of a run as opened, and what the clause
+/// on trials of `Run::run` says, give it.
+pub fn law_trials()
+    ensures { (opened : RunView) (after : RunState) (before tried : ℕ) →
+        opened.run.applications ≡ [] →
+        opened.due ≡ opened.run.basis.options.last * length opened.run.basis.lines →
+        DoesPayAll opened.run after (before + opened.due) tried →
+        AreBounded opened.run after (tried - before) }
 {}
