@@ -1,6 +1,7 @@
--- Refusals that a run remembers: classes at which a front line was found to have no candidate, each with a box that holds all that
--- was looked at to find it. An application touches what is remembered where the box of the corners of its elements meets such a
--- box. This is forgotten, and nothing else.
+-- Refusals that a run remembers: classes at which a front line was found to have no candidate, each
+-- with a box that holds all that was looked at to find it. An application touches what is
+-- remembered where the box of the corners of its elements meets such a box. This is forgotten, and
+-- nothing else.
 --
 -- AreRemembered   what is remembered of each line is true
 -- AreCovering     reaches by class, each of which covers the rules up to its class
@@ -45,7 +46,8 @@ pub record AreRemembered (refused : List ℕ) (s : RunSetting) (st : State) : Ty
   pub none : (line class : ℕ) → 1 ≤ class → class < slice_index_or refused line 0
       → HasNone s.sizes st s.rules line class
 
--- the reach at each class up to 16 covers the rules up to the class, and is no greater than a number that covers them at all classes
+-- the reach at each class up to 16 covers the rules up to the class, and is no greater than a
+-- number that covers them at all classes
 pub record AreCovering (rules : List Rule) (reaches : List ℕ) : Type 0 where
   pub long : 16 < length reaches
   pub no_greater : (class : ℕ) → class < length reaches → (n : ℕ)
@@ -53,7 +55,8 @@ pub record AreCovering (rules : List Rule) (reaches : List ℕ) : Type 0 where
   pub covers : (class : ℕ) → class < length reaches
       → AllByRecursion (IsCoveredAt class (slice_index_or reaches class 0)) rules
 
--- the entry is of the line, from a class on that is no greater, and its box holds all that is looked at on the line at the class, or at one no less
+-- the entry is of the line, from a class on that is no greater, and its box holds all that is
+-- looked at on the line at the class, or at one no less
 pub record IsRegion (reaches : List ℕ) (sizes : SizeField) (points : List Point) (line : ℕ × ℕ × ℕ) (class : ℕ) (e : Entry Region) : Type 0 where
   pub of_line : e.value.line ≡ line.0
   pub from : e.value.class ≤ class
@@ -74,14 +77,15 @@ pub record IsReachOfLine (reaches : List ℕ) (sizes : SizeField) (points : List
   pub tried : class < length reaches
   pub is_box : IsReachBox sizes points (slice_index_or reaches class 0) line.1 line.2 box
 
--- the entry is of a line that is or was on the front, and of one that is its box is that of the line's reach up to some class
+-- the entry is of a line that is or was on the front, and of one that is its box is that of the
+-- line's reach up to some class
 pub record IsOfLine (reaches : List ℕ) (sizes : SizeField) (st : State) (e : Entry Region) : Type 0 where
   pub given : e.value.line < st.next
   pub box : (line : ℕ × ℕ × ℕ) → Contains st.front line → line.0 ≡ e.value.line
       → IsReachOfLine reaches sizes st.points line e.bounds
 
--- something is remembered only of numbers that lines have or had; each class that is remembered of a front line has a region; and each
--- entry is of such a line
+-- something is remembered only of numbers that lines have or had; each class that is remembered of
+-- a front line has a region; and each entry is of such a line
 pub record AreReaching (m : Refusals) (sizes : SizeField) (st : State) : Type 0 where
   pub given : (line : ℕ) → 0 < slice_index_or m.least.items line 0 → line < st.next
   pub regions : (line : ℕ × ℕ × ℕ) (class : ℕ) → Contains st.front line → 1 ≤ class
@@ -144,8 +148,8 @@ HoldsCorners points elements box =
 pub record AreStill (before after : List (Entry Region)) : Type 0 where
   pub each : (e : Entry Region) → Contains before e → Contains after e
 
--- the area is the least box that holds the corners of the elements, by the numbers of these points: a box on the grid. The entries are those whose boxes
--- meet it
+-- the area is the least box that holds the corners of the elements, by the numbers of these points:
+-- a box on the grid. The entries are those whose boxes meet it
 pub record AreHits (points : List Point) (elements : List (List ℕ)) (entries hits : List (Entry Region)) : Type 0 where
   pub area : Bounds
   pub holds : HoldsCorners points elements area
@@ -161,8 +165,8 @@ pub record HasEntryOf (es : List (Entry Region)) (line : ℕ) : Type 0 where
   pub there : Contains es entry
   pub of_line : entry.value.line ≡ line
 
--- of no line more is remembered, of the entry's line nothing from its class on, and of each other line as much as before; entries with other keys
--- stay, and none comes
+-- of no line more is remembered, of the entry's line nothing from its class on, and of each other
+-- line as much as before; entries with other keys stay, and none comes
 pub record IsForgotten (e : Entry Region) (before after : Refusals) : Type 0 where
   pub reaches : after.reaches.items ≡ before.reaches.items
   pub less : (line : ℕ)
@@ -190,9 +194,10 @@ pub record AreForgotten (es : List (Entry Region)) (before after : Refusals) : T
   pub others : (other : Entry Region) → Contains before.regions.entries other
       → All (λ e. other.key ≢ e.key) es → Contains after.regions.entries other
 
--- what is remembered after the entries are forgotten whose boxes meet the area, the least box of the corners of the elements. Of no line more is remembered, and
--- of a line of none of these entries as much as before; for each entry of before, of its line nothing is from its class on, or its box doesn't meet the
--- area, and it is still there; and no entry comes
+-- what is remembered after the entries are forgotten whose boxes meet the area, the least box of
+-- the corners of the elements. Of no line more is remembered, and of a line of none of these
+-- entries as much as before; for each entry of before, of its line nothing is from its class on, or
+-- its box doesn't meet the area, and it is still there; and no entry comes
 pub record IsForgottenNear (points : List Point) (elements : List (List ℕ)) (before after : Refusals) : Type 0 where
   pub area : Bounds
   pub holds : HoldsCorners points elements area
@@ -219,7 +224,8 @@ setting_in s = record { sizes = s.sizes.now; rules = s.rules.now; last = s.last 
 abbrev pub state_in : Scene → State
 state_in s = state_of s.front.now
 
--- the run's state is that of the definition, what it remembers is true, and each front line is to be tried, where that is known
+-- the run's state is that of the definition, what it remembers is true, and each front line is to
+-- be tried, where that is known
 pub record DoesRemember (r : RunState) (m : Refusals) (known : Option (BTreeSet (ℕ × ℕ))) : Type 0 where
   pub is_run : IsRunState r
   pub remembered : AreTrue m (setting_by r.basis) r.state

@@ -1,6 +1,7 @@
--- How many trials a run makes. A trial is one call of `best`: the least candidate of one front line at one class is looked for. What a
--- run still has to try is a number of pairs, each a front line and a class; a trial that finds nothing takes one of them away, and
--- an application gives those of lines that join or that it touches.
+-- How many trials a run makes. A trial is one call of `best`: the least candidate of one front line
+-- at one class is looked for. What a run still has to try is a number of pairs, each a front line
+-- and a class; a trial that finds nothing takes one of them away, and an application gives those of
+-- lines that join or that it touches.
 --
 -- due_at, due           the pairs still to be tried, of one line and of a front
 -- due_in                the pairs still to be tried of what is searched
@@ -53,12 +54,14 @@ pub record RunView : Type 0 where
   pub due : ℕ
 
 -- ---- lines that join, and lines that are touched
--- n is at least 13, and no less than the reach of any live rule. The least such number is the greatest of these reaches, 13 where no rule is live
+-- n is at least 13, and no less than the reach of any live rule. The least such number is the
+-- greatest of these reaches, 13 where no rule is live
 pub record IsReachOfAll (rules : List Rule) (n : ℕ) : Type 0 where
   pub least : 13 ≤ n
   pub live : AllByRecursion (λ r. IsLive r → Covers r n) rules
 
--- it is the closed box of the corners of the application's elements: it holds them, and each box that does holds it
+-- it is the closed box of the corners of the application's elements: it holds them, and each box
+-- that does holds it
 pub record IsCornerBox (st : State) (a : Application) (box : Bounds) : Type 0 where
   pub holds : HoldsCorners (st.points ++ a.made) a.elements box
   pub least : (other : Bounds) → HoldsCorners (st.points ++ a.made) a.elements other
@@ -68,8 +71,9 @@ pub record IsCornerBox (st : State) (a : Application) (box : Bounds) : Type 0 wh
 abbrev pub whole_reach : ℕ → LocalFrame → Bounds
 whole_reach n f = record { lo = reach_lo n f; hi = reach_hi n f }
 
--- the line's reach meets the closed box of the corners of the application's elements: so does its box for each number that is no less than the reach of any
--- live rule, and so for the greatest of these reaches
+-- the line's reach meets the closed box of the corners of the application's elements: so does its
+-- box for each number that is no less than the reach of any live rule, and so for the greatest of
+-- these reaches
 pub record IsTouched (s : RunSetting) (st : State) (a : Application) (line : ℕ × ℕ × ℕ) : Type 0 where
   pub box : Bounds
   pub corners : IsCornerBox st a box
@@ -83,7 +87,8 @@ pub record IsTouched (s : RunSetting) (st : State) (a : Application) (line : ℕ
 abbrev pub joined : State → Application → List (ℕ × ℕ × ℕ)
 joined st a = filter (λ line. not (nat_lt line.0 st.next)) (applied st a).front
 
--- these are some of the front lines after the application, each of which it touches: so they are no more than those that it touches
+-- these are some of the front lines after the application, each of which it touches: so they are no
+-- more than those that it touches
 pub record AreTouched (s : RunSetting) (st : State) (a : Application) (lines : List (ℕ × ℕ × ℕ)) : Type 0 where
   pub is_one : ℕ × ℕ × ℕ → Bool
   pub lines_are : lines ≡ filter is_one (applied st a).front
@@ -103,8 +108,9 @@ AreChanged s st (a ∷ more) (k ∷ counts) = IsChanged s st a k
     × AreChanged s (applied st a) more counts
 
 -- ---- trials and what is due
--- an application: trials made and pairs due together grow by no more than the last class for each line that joins or is touched. `before` and `after` are
--- the trials made and the pairs due together
+-- an application: trials made and pairs due together grow by no more than the last class for each
+-- line that joins or is touched. `before` and `after` are the trials made and the pairs due
+-- together
 pub record IsPaid (s : RunSetting) (st : State) (a : Application) (before after : ℕ) : Type 0 where
   pub lines : ℕ
   pub changed : IsChanged s st a lines
@@ -116,8 +122,8 @@ DoesPay r before after (Applied a) = IsPaid (setting_by r.basis) r.state a befor
 DoesPay r before after Done = after ≤ before
 DoesPay r before after Stuck = after ≤ before
 
--- the applications by which a run has gone on: no more trials were made than were due, and for each line that joined or was touched
--- as many as there are classes
+-- the applications by which a run has gone on: no more trials were made than were due, and for each
+-- line that joined or was touched as many as there are classes
 pub record DoesPayAll (before after : RunState) (budget tried : ℕ) : Type 0 where
   pub more : List Application
   pub applications : after.applications ≡ before.applications ++ more
@@ -126,8 +132,8 @@ pub record DoesPayAll (before after : RunState) (budget tried : ℕ) : Type 0 wh
   pub paid : tried ≤ budget + before.basis.options.last * sum lines
 
 -- ---- the promise
--- a run as opened has made at most as many trials as there are classes for each opening line, and for each line by each application by which it joined or that
--- touched it
+-- a run as opened has made at most as many trials as there are classes for each opening line, and
+-- for each line by each application by which it joined or that touched it
 pub record AreBounded (opened after : RunState) (trials : ℕ) : Type 0 where
   pub lines : List ℕ
   pub changed : AreChanged (setting_by opened.basis) opened.state after.applications lines
