@@ -28,6 +28,3 @@ mod view;
 pub use admitting::admit;
 pub use refusal::{Admitted, GlueRefusal};
 pub use std::alloc::AllocError as OutOfMemory;
-
-#[cfg(test)]
-mod tests;

@@ -32,6 +32,3 @@ pub struct Entry<V> {
     pub bounds: Bounds,
     pub value: V,
 }
-
-#[cfg(test)]
-mod tests;

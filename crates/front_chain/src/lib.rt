@@ -35,6 +35,3 @@ pub use boxes::box_between;
 pub use front::{Front, Near};
 pub use opening::SWEEP;
 pub use std::alloc::AllocError as OutOfMemory;
-
-#[cfg(test)]
-mod tests;

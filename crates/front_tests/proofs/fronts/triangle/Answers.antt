@@ -1,5 +1,5 @@
 use Rattle.front_chain.proofs.Worked.{triangle_opens}
-use Rattle.admission.proofs.tests.triangle.Goals as goal
+use Rattle.front_tests.proofs.fronts.triangle.Goals as goal
 
 pub open-requires : goal.open-requires
 open-requires c = triangle_opens

@@ -2,7 +2,7 @@ use Rattle.std.proofs.Common.{◌≡◌, ℕ, List, [], ◌∷◌, length, ap, �
 use Rattle.std.specs.List.{All}
 use Rattle.std.proofs.lemmas.List.Elements.{All-cons, All-nil}
 use Rattle.admission.proofs.Worked.{ring_gluable}
-use Rattle.admission.proofs.tests.glues_what_is_admitted.Goals as goal
+use Rattle.front_tests.proofs.gluing.glues_what_is_admitted.Goals as goal
 
 -- one element of three corners
 one_triangle : (ns : List ℕ) → length ns ≡ 3 → All (λ ms. length ms ≡ 3) (ns ∷ [])

@@ -2,7 +2,7 @@ use Rattle.std.proofs.Common.{◌≡◌, ℕ, List, [], ◌∷◌, length, ap, �
 use Rattle.std.specs.List.{All}
 use Rattle.std.proofs.lemmas.List.Elements.{All-cons, All-nil}
 use Rattle.admission.proofs.Worked.{new_place}
-use Rattle.admission.proofs.tests.refuses_a_corner_on_a_line_and_a_turned_element.Goals as goal
+use Rattle.front_tests.proofs.gluing.refuses_a_corner_on_a_line_and_a_turned_element.Goals as goal
 
 -- one element of three corners
 one_triangle : (ns : List ℕ) → length ns ≡ 3 → All (λ ms. length ms ≡ 3) (ns ∷ [])

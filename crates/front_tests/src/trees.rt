@@ -1,8 +1,8 @@
 // Hits of small sets of boxes, worked out by hand.
 
-use super::*;
-use grid_geom::Point;
-use std::alloc::Global;
+use digital_tree::Tree;
+use grid_geom::{Bounds, Point};
+use std::alloc::{AllocError as OutOfMemory, Global};
 use std::test::Fail;
 
 /// The square of this size with its least corner at (x, y).

@@ -1,5 +1,5 @@
 use Rattle.front_chain.proofs.Ring.{ring_opens}
-use Rattle.admission.proofs.tests.ring.Goals as goal
+use Rattle.front_tests.proofs.fronts.ring.Goals as goal
 
 pub open-requires : goal.open-requires
 open-requires c = ring_opens

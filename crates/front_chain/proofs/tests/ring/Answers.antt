@@ -1,5 +1,0 @@
-use Rattle.front_chain.proofs.Ring.{ring_opens}
-use Rattle.front_chain.proofs.tests.ring.Goals as goal
-
-pub open-requires : goal.open-requires
-open-requires c = ring_opens
