@@ -48,3 +48,5 @@ pub mod CoversAt
 pub mod NotesMade
 pub mod Hindered
 pub mod Excused
+-- StillRefused: a refused line stays refused where what maps a fresh point was looked at again.
+pub mod StillRefused
