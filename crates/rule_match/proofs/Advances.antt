@@ -94,6 +94,15 @@ module _ {holds : List ℕ → Type 0} {rank : List ℕ → Found} where
     from = subst (λ (z : Option Found). IsFrom holds rank o.best z) (sym e) (from_same holds rank o.best);
   }
 
+-- what is from narrower candidates is from wider ones
+pub advance_wider : {narrow holds : List ℕ → Type 0} {rank : List ℕ → Found} {o p : Progress} → ((b : List ℕ) → narrow b → holds b) → IsAdvance narrow rank o p → IsAdvance holds rank o p
+advance_wider {narrow} {holds} {rank} {o} {p} wider h = record { no_worse = h.no_worse; noted = h.noted; from = by p.best h.from }
+  where
+    by : (f : Option Found) → IsFrom narrow rank o.best f → IsFrom holds rank o.best f
+    by None i = tt
+    by (Some r) (inl e) = inl e
+    by (Some r) (inr i) = inr (i.0, wider i.0 i.1, i.2)
+
 -- ---- what is settled
 module _ {holds : List ℕ → Type 0} {reasons : List Note → List ℕ → Type 0} {rank : List ℕ → Found} where
   pub settled_later : (more : (notes more : List Note) (b : List ℕ) → reasons notes b → reasons (notes ++ more) b) →

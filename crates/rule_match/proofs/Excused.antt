@@ -93,7 +93,7 @@ way_noted t base front rule zone points notes n eb ef er w k = record {
 }
 
 -- what holds of all holds of one
-at_index : {X : Type 0} (P : X → Type 0) (xs : List X) (k : ℕ) (x : X) → AllByRecursion P xs → k < length xs → slice_index_or xs k x ≡ x → P x
+pub at_index : {X : Type 0} (P : X → Type 0) (xs : List X) (k : ℕ) (x : X) → AllByRecursion P xs → k < length xs → slice_index_or xs k x ≡ x → P x
 at_index P [] k x a h e = absurd (omega (arith, h))
 at_index P (y ∷ xs) zero x a h e = subst P e a.0
 at_index P (y ∷ xs) (suc k) x a h e = at_index P xs k x a.1 (omega (arith, h)) e

@@ -1,9 +1,10 @@
 -- The order of finds: RankOrder, that it is total; OneLeast, that a line has one least candidate.
 pub mod RankOrder
 pub mod OneLeast
--- The walk: Advances, what is found and noted along it; Turns, one turn of a loop; Regions, regions narrowed to fresh numbers.
+-- The walk: Advances, what is found and noted along it; Turns, one turn of a loop; GoingOn, of which regions what is found is; Regions, regions narrowed to fresh numbers.
 pub mod Advances
 pub mod Turns
+pub mod GoingOn
 pub mod Regions
 -- Reasons: Places, from candidates by numbers to candidates by places; KeptOne, reasons over an application.
 pub mod Places
@@ -48,3 +49,5 @@ pub mod CoversAt
 pub mod NotesMade
 pub mod Hindered
 pub mod Excused
+-- StillRefused: a refused line stays refused where what maps a fresh point was looked at again.
+pub mod StillRefused

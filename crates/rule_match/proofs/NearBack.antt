@@ -70,7 +70,7 @@ module _ (pts : List Point) (different : IsDistinct same_point pts) where
       (one_number pts line.1 s.0 different l.0.0 k.0 (ap (λ (z : Edge). z.a) e), one_number pts line.2 s.1 different l.0.1 k.1 (ap (λ (z : Edge). z.b) e))
   pair_number (line ∷ front) s l k (inr h) = any_later (λ line. (line.1 ≡ s.0) × (line.2 ≡ s.1)) line front (pair_number front s l.1 k h)
 
-  corner_number : (ns : List ℕ) (n : ℕ) → AllByRecursion (IsListed (length pts)) ns → IsListed (length pts) n → IsCorner (point_at pts n) (corners_of pts ns) → Contains ns n
+  pub corner_number : (ns : List ℕ) (n : ℕ) → AllByRecursion (IsListed (length pts)) ns → IsListed (length pts) n → IsCorner (point_at pts n) (corners_of pts ns) → Contains ns n
   corner_number [] n l k h = absurd h
   corner_number (m ∷ ns) n l k (inl e) = (0, omega arith, one_number pts m n different l.0 k e)
   corner_number (m ∷ ns) n l k (inr h) = let r = corner_number ns n l.1 k h in (suc r.0, omega (arith, r.1), r.2)
@@ -88,7 +88,7 @@ module _ (pts : List Point) (different : IsDistinct same_point pts) where
       both p q = λ i. (p i, q i)
   line_number ns (m ∷ lines) line l k (inr h) = any_later (λ l. mapped_pair ns l ≡ (line.1, line.2)) m lines (line_number ns lines line l.1 k h)
 
-contained_corner : (p : Point) (ps : List Point) → Contains ps p → IsCorner p ps
+pub contained_corner : (p : Point) (ps : List Point) → Contains ps p → IsCorner p ps
 contained_corner p ps r = at ps r.0 r.1 r.2
   where
     at : (ps : List Point) (k : ℕ) → k < length ps → slice_index_or ps k p ≡ p → IsCorner p ps
@@ -180,13 +180,13 @@ front_listed st n h f = by f.4 (ends_listed (length st.points) st.front f.0 f.1 
     by (inl e) l = subst (IsListed (length st.points)) e l.0
     by (inr e) l = subst (IsListed (length st.points)) e l.1
 
-kept_point : (pts more later : List Point) (n : ℕ) → later ≡ pts ++ more → IsListed (length pts) n → point_at later n ≡ point_at pts n
+pub kept_point : (pts more later : List Point) (n : ℕ) → later ≡ pts ++ more → IsListed (length pts) n → point_at later n ≡ point_at pts n
 kept_point pts more later n e l = ap (λ (ps : List Point). point_at ps n) e ∙ get_or_append_left pts more (record { x = pos 0; y = pos 0 }) (n - 1) (below n (length pts) l.0 l.1)
   where
     below : (n m : ℕ) → 1 ≤ n → n ≤ m → n - 1 < m
     below n m l k = omega arith
 
-still_listed : (pts more later : List Point) (n : ℕ) → later ≡ pts ++ more → IsListed (length pts) n → IsListed (length later) n
+pub still_listed : (pts more later : List Point) (n : ℕ) → later ≡ pts ++ more → IsListed (length pts) n → IsListed (length later) n
 still_listed pts more later n e l = let count = length-append pts more in let longer = ap length e in (l.0, omega (arith, l.1))
 
 -- a listed place that is an end of an earlier front line has a number of before
@@ -196,26 +196,30 @@ point_known pts more later (line ∷ front) n e d l k (inl (inl p)) = subst (IsL
 point_known pts more later (line ∷ front) n e d l k (inl (inr p)) = subst (IsListed (length pts)) (one_number later line.2 n d (still_listed pts more later line.2 e l.0.1) k (kept_point pts more later line.2 e l.0.1 ∙ sym p)) l.0.1
 point_known pts more later (line ∷ front) n e d l k (inr h) = point_known pts more later front n e d l.1 k h
 
-corners_kept : (pts more later : List Point) (ns : List ℕ) → later ≡ pts ++ more → AllByRecursion (IsListed (length pts)) ns → corners_of later ns ≡ corners_of pts ns
+pub corners_kept : (pts more later : List Point) (ns : List ℕ) → later ≡ pts ++ more → AllByRecursion (IsListed (length pts)) ns → corners_of later ns ≡ corners_of pts ns
 corners_kept pts more later [] e l = refl
 corners_kept pts more later (n ∷ ns) e l = λ i. kept_point pts more later n e l.0 i ∷ corners_kept pts more later ns e l.1 i
 
 abbrev ArePairsListed : ℕ → List ℕ → List MapLine → Type 0
 ArePairsListed n ns lines = AllByRecursion (λ l. IsListed n (mapped_pair ns l).0 × IsListed n (mapped_pair ns l).1) lines
 
-pairs_kept : (pts more later : List Point) (ns : List ℕ) (lines : List MapLine) → later ≡ pts ++ more → ArePairsListed (length pts) ns lines → map (λ l. pair_edge later (mapped_pair ns l)) lines ≡ map (λ l. pair_edge pts (mapped_pair ns l)) lines
+pub pairs_kept : (pts more later : List Point) (ns : List ℕ) (lines : List MapLine) → later ≡ pts ++ more → ArePairsListed (length pts) ns lines → map (λ l. pair_edge later (mapped_pair ns l)) lines ≡ map (λ l. pair_edge pts (mapped_pair ns l)) lines
 pairs_kept pts more later ns [] e h = refl
 pairs_kept pts more later ns (l ∷ lines) e h = λ i. record { a = kept_point pts more later (mapped_pair ns l).0 e h.0.0 i; b = kept_point pts more later (mapped_pair ns l).1 e h.0.1 i } ∷ pairs_kept pts more later ns lines e h.1 i
 
-pub pairs_listed : (n count : ℕ) (ns : List ℕ) (lines : List MapLine) → length ns ≡ count → AllByRecursion (IsListed n) ns → AllByRecursion (IsMapLine count) lines → ArePairsListed n ns lines
-pairs_listed n count ns [] e l h = tt
-pairs_listed n count ns (m ∷ lines) e l h = ((at m.i h.0.i, at m.j h.0.j), pairs_listed n count ns lines e l h.1)
+-- what the mapped points have the ends of mapped lines have
+pub pairs_have : (P : ℕ → Type 0) (count : ℕ) (ns : List ℕ) (lines : List MapLine) → length ns ≡ count → AllByRecursion P ns → AllByRecursion (IsMapLine count) lines → AllByRecursion (λ l. P (mapped_pair ns l).0 × P (mapped_pair ns l).1) lines
+pairs_have P count ns [] e l h = tt
+pairs_have P count ns (m ∷ lines) e l h = ((at m.i h.0.i, at m.j h.0.j), pairs_have P count ns lines e l h.1)
   where
-    at : (k : ℕ) → Names count k → IsListed n (nth ns k)
-    at k i = All-get_or (IsListed n) ns (k - 1) 0 (below k count (length ns) i.0 i.1 e) (All-from_recursion (IsListed n) ns l)
+    at : (k : ℕ) → Names count k → P (nth ns k)
+    at k i = All-get_or P ns (k - 1) 0 (below k count (length ns) i.0 i.1 e) (All-from_recursion P ns l)
       where
         below : (k m n : ℕ) → 0 < k → k ≤ m → n ≡ m → k - 1 < n
         below k m n l i e = omega (arith, e)
+
+pub pairs_listed : (n count : ℕ) (ns : List ℕ) (lines : List MapLine) → length ns ≡ count → AllByRecursion (IsListed n) ns → AllByRecursion (IsMapLine count) lines → ArePairsListed n ns lines
+pairs_listed n = pairs_have (IsListed n)
 
 -- ---- the places of an attempt, from its mapped points
 abbrev mapping_by : Attempt → List Point → Mapping
@@ -227,7 +231,7 @@ made_by t ms = made_from (mapping_by t ms) 1 t.text.new_points
 abbrev zone_by : Attempt → List Point → List Point
 zone_by t ms = zone_from (mapping_by t ms) t.class 1 t.text.area
 
-same_places : (st later : State) (t : Attempt) → mapped later t ≡ mapped st t → (places_of later t).lines ≡ (places_of st t).lines → places_of later t ≡ places_of st t
+pub same_places : (st later : State) (t : Attempt) → mapped later t ≡ mapped st t → (places_of later t).lines ≡ (places_of st t).lines → places_of later t ≡ places_of st t
 same_places st later t e f = λ i. record {
   mapped = e i;
   lines = f i;
@@ -236,7 +240,7 @@ same_places st later t e f = λ i. record {
   elements = map (corners_of (e i ++ made_by t (e i))) t.text.elements;
 }
 
-allowed_back : (st later : State) (t : Attempt) → mapped later t ≡ mapped st t → IsAllowed later t → IsAllowed st t
+pub allowed_back : (st later : State) (t : Attempt) → mapped later t ≡ mapped st t → IsAllowed later t → IsAllowed st t
 allowed_back st later t e a = record {
   live = a.live;
   quality = a.quality;
@@ -291,7 +295,7 @@ covered_above class n r rule above = record { rule = rule; within = λ st t e c 
     clash class quality tried a l q = omega arith
 
 -- ---- a line that has none has none later
-rule_at : (P : Rule → Type 0) (rules : List Rule) (k : ℕ) (r : Rule) → AllByRecursion P rules → slice_get rules k ≡ Some r → P r
+pub rule_at : (P : Rule → Type 0) (rules : List Rule) (k : ℕ) (r : Rule) → AllByRecursion P rules → slice_get rules k ≡ Some r → P r
 rule_at P [] k r h e = absurd (cc)
 rule_at P (x ∷ rules) zero r h e = let same : x ≡ r = cc in subst P same h.0
 rule_at P (x ∷ rules) (suc k) r h e = rule_at P rules k r h.1 e
@@ -302,32 +306,43 @@ same_frame sizes a b f g h k =
     let middle : g.middle ≡ f.middle = λ i. record { x = (k.middle_x ∙ sym h.middle_x) i; y = (k.middle_y ∙ sym h.middle_y) i } in
     one_frame a b (size_at sizes f.middle) f g h (subst (λ (p : Point). IsFrameOf a b (size_at sizes p) g) middle k)
 
+-- an attempt on a line that stays is one of before, with the frame of before
+pub of_before : (sizes : SizeField) (rules : List Rule) (class : ℕ) (st later : State) (more : List Point) (line : Triple) (f : LocalFrame) → later.points ≡ st.points ++ more → IsNumbered st → IsStayingLine sizes st later line f
+    → (t : Attempt) → IsOf sizes later rules line.0 class t → IsOf sizes st rules line.0 class t × (f ≡ t.frame)
+of_before sizes rules class st later more line f points numbered stays t o = (
+  record {
+    on_front = subst (Contains st.front) (sym same) stays.on_front;
+    same_line = o.same_line;
+    framed = subst (λ (l : Triple). IsFrameOf (point_at st.points l.1) (point_at st.points l.2) (size_at sizes t.frame.middle) t.frame) (sym same) framed;
+    same_class = o.same_class;
+    numbered = o.numbered;
+    is_rule = o.is_rule;
+  },
+  same_frame sizes (point_at st.points line.1) (point_at st.points line.2) f t.frame stays.framed framed,
+)
+  where
+    same : t.line ≡ line
+    same = stays.same t.line o.on_front o.same_line
+
+    ends : IsListed (length st.points) line.1 × IsListed (length st.points) line.2
+    ends = ends_listed (length st.points) st.front stays.on_front.0 line numbered.lines_listed stays.on_front.1 stays.on_front.2
+
+    framed : IsFrameOf (point_at st.points line.1) (point_at st.points line.2) (size_at sizes t.frame.middle) t.frame
+    framed = subst (λ (p : Point). IsFrameOf p (point_at st.points line.2) (size_at sizes t.frame.middle) t.frame) (kept_point st.points more later.points line.1 points ends.0)
+        (subst (λ (p : Point). IsFrameOf (point_at later.points line.1) p (size_at sizes t.frame.middle) t.frame) (kept_point st.points more later.points line.2 points ends.1)
+        (subst (λ (l : Triple). IsFrameOf (point_at later.points l.1) (point_at later.points l.2) (size_at sizes t.frame.middle) t.frame) same o.framed))
+
 pub none_later_at : (sizes : SizeField) (rules : List Rule) (n last class : ℕ) (st later : State) (more : List Point) (line : Triple) (f : LocalFrame) → 1 ≤ class → class ≤ last → AllByRecursion (IsCoveredAt last n) rules
     → IsStayingLine sizes st later line f → IsAlikeNear (reach_lo n f) (reach_hi n f) st later more → HasNone sizes st rules line.0 class → HasNone sizes later rules line.0 class
 none_later_at sizes rules n last class st later more line f first not_after covered stays h none = record { none = each }
   where
-    ends : IsListed (length st.points) line.1 × IsListed (length st.points) line.2
-    ends = ends_listed (length st.points) st.front stays.on_front.0 line h.numbered.lines_listed stays.on_front.1 stays.on_front.2
-
     each : (t : Attempt) → IsOf sizes later rules line.0 class t → IsCandidate later t → ⊥
     each t o c =
-        let same : t.line ≡ line = stays.same t.line o.on_front o.same_line in
-        let framed : IsFrameOf (point_at st.points line.1) (point_at st.points line.2) (size_at sizes t.frame.middle) t.frame =
-        subst (λ (p : Point). IsFrameOf p (point_at st.points line.2) (size_at sizes t.frame.middle) t.frame) (kept_point st.points more later.points line.1 h.points ends.0)
-        (subst (λ (p : Point). IsFrameOf (point_at later.points line.1) p (size_at sizes t.frame.middle) t.frame) (kept_point st.points more later.points line.2 h.points ends.1)
-        (subst (λ (l : Triple). IsFrameOf (point_at later.points l.1) (point_at later.points l.2) (size_at sizes t.frame.middle) t.frame) same o.framed)) in
-        let frame : f ≡ t.frame = same_frame sizes (point_at st.points line.1) (point_at st.points line.2) f t.frame stays.framed framed in
+        let before = of_before sizes rules class st later more line f h.points h.numbered stays t o in
         let by = rule_at (IsCoveredAt last n) rules (t.rule - 1) t.text covered o.is_rule in
-        let within = by.within later t refl c (subst IsFrame frame stays.frame) (subst (λ (m : ℕ). 1 ≤ m) (sym o.same_class) first) (subst (λ (m : ℕ). m ≤ last) (sym o.same_class) not_after) in
-        let near = subst (λ (g : LocalFrame). IsAlikeNear (reach_lo n g) (reach_hi n g) st later more) frame h in
-        none.none t (record {
-          on_front = subst (Contains st.front) (sym same) stays.on_front;
-          same_line = o.same_line;
-          framed = subst (λ (l : Triple). IsFrameOf (point_at st.points l.1) (point_at st.points l.2) (size_at sizes t.frame.middle) t.frame) (sym same) framed;
-          same_class = o.same_class;
-          numbered = o.numbered;
-          is_rule = o.is_rule;
-        }) (back_by n st later more t by.rule within near c)
+        let within = by.within later t refl c (subst IsFrame before.1 stays.frame) (subst (λ (m : ℕ). 1 ≤ m) (sym o.same_class) first) (subst (λ (m : ℕ). m ≤ last) (sym o.same_class) not_after) in
+        let near = subst (λ (g : LocalFrame). IsAlikeNear (reach_lo n g) (reach_hi n g) st later more) before.1 h in
+        none.none t before.0 (back_by n st later more t by.rule within near c)
 
 pub none_later : (sizes : SizeField) (rules : List Rule) (n class : ℕ) (st later : State) (more : List Point) (line : Triple) (f : LocalFrame) → 1 ≤ class → AllByRecursion (IsCoveredBy n) rules
     → IsStayingLine sizes st later line f → IsAlikeNear (reach_lo n f) (reach_hi n f) st later more → HasNone sizes st rules line.0 class → HasNone sizes later rules line.0 class

@@ -28,22 +28,23 @@ use Rattle.rule_match.specs.Trying.{near_at, ties}
 use Rattle.rule_match.specs.Around.{StandFor}
 use Rattle.rule_match.specs.Base.{BaseLine, IsBaseLine, IsBaseOf, Tried, attempt_of, numbers_at, setting_at}
 use Rattle.rule_match.specs.Idle.{NoneApplies, SomeMayApply}
-use Rattle.rule_match.specs.Passed.{IsPassed, IsOn, IsFind, IsFindIfAny, IsLeastSoFar, AreExcusedSoFar, AllAsked, AreFreshAt, IsAgainSoFar, IsPassedAgain, IsSoFar, MapsOne, NoneMayApply, Holds, rank_of, state_at}
+use Rattle.rule_match.specs.Passed.{IsPassed, IsOn, IsFind, IsFindIfAny, IsFreshFindIfAny, IsLeastSoFar, AreExcusedSoFar, AllAsked, AreFreshAt, IsAgainSoFar, IsPassedAgain, IsSoFar, MapsOne, NoneMayApply, Holds, rank_of, state_at}
 use Rattle.rule_match.specs.declared.progress.Note.{Note}
-use Rattle.rule_match.specs.Refused.{HasNoneAgain, HasOne, IsAllowed, FitsFront, IsExcused, IsRefusedAgain, IsRefusedBy}
+use Rattle.rule_match.specs.Refused.{HasNoneAgain, HasOneAgain, IsAllowed, FitsFront, IsExcused, IsRefusedAgain, IsRefusedBy}
 use Rattle.rule_match.specs.Noted.{HasExcuse}
-use Rattle.rule_match.specs.Walk.{IsAdvance, IsFresh, IsFrom}
+use Rattle.rule_match.specs.Walk.{HoldsFresh, IsAdvance, IsFresh, IsFrom}
 use Rattle.rule_match.proofs.Standing.{all_there, within}
 use Rattle.rule_match.proofs.NextPoint.{points_of}
-use Rattle.std.proofs.lemmas.Bool.{cases_lt, eqb-false}
-use Rattle.std.proofs.lemmas.List.Elements.{Contains-append_left, Contains-append_right}
+use Rattle.std.proofs.lemmas.Bool.{cases_lt, eqb-false, eqb-true}
+use Rattle.std.proofs.lemmas.List.Elements.{Contains-append_cases, Contains-append_left, Contains-append_right}
 use Rattle.std.specs.Prelude.{is_some, nat_eq, ◌++◌}
 use Rattle.state_law.specs.Region.{IsRegion}
 use Rattle.state_law.proofs.Region.{region_front}
 use Rattle.std.proofs.lemmas.List.{get_or-map, length-map}
 use Rattle.rule_match.specs.MoreNotes.{excused_more}
 use Rattle.rule_match.proofs.Places.{allowed, excused_none, on_its_front}
-use Rattle.rule_match.proofs.Advances.{none_before, no_worse_chain}
+use Rattle.rule_match.proofs.Advances.{advance_wider, none_before, no_worse_chain}
+use Rattle.rule_match.proofs.Regions.{single}
 use Rattle.rule_match.proofs.Gathered.{line_numbered}
 use Rattle.rule_match.proofs.Tried.{tried}
 
@@ -110,20 +111,22 @@ skipped b rules k rule best is never so_far = record { found = so_far.found; lea
         let same : t.text ≡ rule = text_at rules t.rule k t.text rule e on.is_rule is in
         absurd (never (subst IsLive same c.live) (subst (λ (n : ℕ). rule.quality ≤ n) on.class (subst (λ (r : Rule). r.quality ≤ t.class) same c.quality)))
 
+-- a candidate by the rule is a find
+find_of : (b : BaseLine) (rules : List Rule) (k : ℕ) (rule : Rule) → slice_get rules k ≡ Some rule → (a : List ℕ) → IsCandidate (state_of b.front) (attempt_of (record { base = b; number = k + 1; rule = rule }) a) →
+    (r : Found) → r ≡ rank (state_of b.front) (attempt_of (record { base = b; number = k + 1; rule = rule }) a) → IsFind b rules r
+find_of b rules k rule is a c r e =
+    let back : k + 1 - 1 ≡ k = omega arith in
+    record { attempt = attempt_of (record { base = b; number = k + 1; rule = rule }) a; on = record { class = refl; line = refl; frame = refl; first = omega arith; is_rule = ap (slice_get rules) back ∙ is }; candidate = c; is = e }
+
 -- what is found after a rule is passed is a find
 found_passed : (b : BaseLine) (rules : List Rule) (k : ℕ) (rule : Rule) (old new : Progress) → slice_get rules k ≡ Some rule →
     IsAdvance (Holds (record { base = b; number = k + 1; rule = rule })) (rank_of (record { base = b; number = k + 1; rule = rule })) old new → IsFindIfAny b rules old.best → IsFindIfAny b rules new.best
 found_passed b rules k rule old new is advance before = kept new.best advance.from
   where
-    mine : (a : List ℕ) → IsCandidate (state_of b.front) (attempt_of (record { base = b; number = k + 1; rule = rule }) a) → (r : Found) → r ≡ rank (state_of b.front) (attempt_of (record { base = b; number = k + 1; rule = rule }) a) → IsFind b rules r
-    mine a c r e =
-        let back : k + 1 - 1 ≡ k = omega arith in
-        record { attempt = attempt_of (record { base = b; number = k + 1; rule = rule }) a; on = record { class = refl; line = refl; frame = refl; first = omega arith; is_rule = ap (slice_get rules) back ∙ is }; candidate = c; is = e }
-
     kept : (o : Option Found) → IsFrom (Holds (record { base = b; number = k + 1; rule = rule })) (rank_of (record { base = b; number = k + 1; rule = rule })) old.best o → IsFindIfAny b rules o
     kept None f = tt
     kept (Some r) (inl e) = subst (IsFindIfAny b rules) e before
-    kept (Some r) (inr f) = mine f.0 f.1 r f.2
+    kept (Some r) (inr f) = find_of b rules k rule is f.0 f.1 r f.2
 
 -- a rule that is passed
 passed : (b : BaseLine) (rules : List Rule) (k : ℕ) (rule : Rule) (old new : Progress) → IsBaseLine b → slice_get rules k ≡ Some rule → IsPassed (record { base = b; number = k + 1; rule = rule }) old new
@@ -202,7 +205,22 @@ passed_at b rules n rule old new h k is line p so_far =
 fresh_assigned : (near : List NearPoint) (fresh positions b : List ℕ) → AreFreshAt near fresh positions → AllByRecursion (λ k. k < length near) b → MapsOne fresh (numbers_at near b) → IsFresh positions b
 fresh_assigned near fresh positions b at w m =
     let within : m.0 < length b = subst (λ (n : ℕ). m.0 < n) (length-map b (λ k. (near_at near k).number)) m.2 in
-    (m.0, within, at (slice_index_or b m.0 0) (all_there (λ k. k < length near) b m.0 w within) (subst (Contains fresh) (sym m.3 ∙ get_or-map (λ k. (near_at near k).number) b m.0 0 m.1 within) m.4))
+    (m.0, within, at.all (slice_index_or b m.0 0) (all_there (λ k. k < length near) b m.0 w within) (subst (Contains fresh) (sym m.3 ∙ get_or-map (λ k. (near_at near k).number) b m.0 0 m.1 within) m.4))
+
+maps_fresh : (near : List NearPoint) (fresh positions b : List ℕ) → AreFreshAt near fresh positions → IsFresh positions b → MapsOne fresh (numbers_at near b)
+maps_fresh near fresh positions b at f =
+    let number : ℕ = (near_at near (slice_index_or b f.0 0)).number in
+    (f.0, number, subst (λ (n : ℕ). f.0 < n) (sym (length-map b (λ k. (near_at near k).number))) f.1, get_or-map (λ k. (near_at near k).number) b f.0 0 number f.1, at.only (slice_index_or b f.0 0) f.2)
+
+-- what is found after a rule is passed again is a find that maps a fresh point
+found_again : (b : BaseLine) (rules : List Rule) (k : ℕ) (rule : Rule) (fresh positions : List ℕ) (old new : Progress) → slice_get rules k ≡ Some rule → AreFreshAt b.near fresh positions →
+    IsAdvance (HoldsFresh (Holds (record { base = b; number = k + 1; rule = rule })) positions) (rank_of (record { base = b; number = k + 1; rule = rule })) old new → IsFreshFindIfAny b rules fresh old.best → IsFreshFindIfAny b rules fresh new.best
+found_again b rules k rule fresh positions old new is at advance before = kept new.best advance.from
+  where
+    kept : (o : Option Found) → IsFrom (HoldsFresh (Holds (record { base = b; number = k + 1; rule = rule })) positions) (rank_of (record { base = b; number = k + 1; rule = rule })) old.best o → IsFreshFindIfAny b rules fresh o
+    kept None f = tt
+    kept (Some r) (inl e) = subst (IsFreshFindIfAny b rules fresh) e before
+    kept (Some r) (inr f) = (find_of b rules k rule is f.0 f.1.0 r f.2, subst (MapsOne fresh) (sym (ap (λ (z : Found). z.points) f.2)) (maps_fresh b.near fresh positions f.0 at f.1.1))
 
 -- positions while near points are looked at
 pub position_kept : (near : List NearPoint) (fresh positions new : List ℕ) (k : ℕ) → new ≡ positions ++ k ∷ [] → ((j : ℕ) → j < k → Contains fresh (near_at near j).number → Contains positions j) → (j : ℕ) → j < k + 1 → Contains fresh (near_at near j).number → Contains new j
@@ -219,8 +237,16 @@ position_passed near fresh positions k number e none h j l r = elim (cases_lt j 
       absurd (eqb-false (slice_index_or fresh r.0 (near_at near j).number) number (none r.0 (near_at near j).number (omega arith) r.1) (r.2 ∙ ap (λ (m : ℕ). (near_at near m).number) same ∙ sym e))
 ]
 
+-- a position is added where a fresh point is
+pub position_more : (near : List NearPoint) (fresh positions new : List ℕ) (k number : ℕ) → number ≡ (near_at near k).number → (i : ℕ) × (i < length fresh) × ((d : ℕ) → nat_eq (slice_index_or fresh i d) number ≡ true) → new ≡ positions ++ k ∷ [] → ((j : ℕ) → Contains positions j → Contains fresh (near_at near j).number) →
+    (j : ℕ) → Contains new j → Contains fresh (near_at near j).number
+position_more near fresh positions new k number is here e h j l = elim (Contains-append_cases positions (k ∷ []) j (subst (λ (z : List ℕ). Contains z j) e l)) [
+  | inl i ↦ h j i
+  | inr i ↦ subst (λ (m : ℕ). Contains fresh (near_at near m).number) (single k j i.0 i.1 i.2) (subst (Contains fresh) is (here.0, here.1, eqb-true (slice_index_or fresh here.0 number) number (here.2 number)))
+]
+
 pub again_none : (b : BaseLine) (rules : List Rule) (fresh : List ℕ) (p : Progress) → p.best ≡ None → IsAgainSoFar b rules 0 fresh p
-again_none b rules fresh p e = record { found = subst (IsFindIfAny b rules) (sym e) tt; excused = none_excused b rules (MapsOne fresh) p }
+again_none b rules fresh p e = record { found = subst (IsFreshFindIfAny b rules fresh) (sym e) tt; excused = none_excused b rules (MapsOne fresh) p }
 
 pub skipped_again : (b : BaseLine) (rules : List Rule) (n : ℕ) (rule : Rule) (fresh : List ℕ) (p : Progress) → 1 ≤ n → n ≤ length rules → ((d : Rule) → slice_index_or rules (n - 1) d ≡ rule) → (IsLive rule → rule.quality ≤ b.class → ⊥)
     → IsAgainSoFar b rules (n - 1) fresh p → IsAgainSoFar b rules n fresh p
@@ -235,8 +261,8 @@ passed_again b rules n rule fresh positions old new h k is line at p so_far =
     let here = subst (λ (m : ℕ). IsPassedAgain (record { base = b; number = m; rule = rule }) positions old new) back p in
     let tried_here : Tried = record { base = b; number = n - 1 + 1; rule = rule } in
     subst (λ (m : ℕ). IsAgainSoFar b rules m fresh new) (before_number n h) (record {
-      found = found_passed b rules (n - 1) rule old new there here.advance so_far.found;
-      excused = passed_excused b rules (n - 1) rule (MapsOne fresh) old new line there here.advance
+      found = found_again b rules (n - 1) rule fresh positions old new there at here.advance so_far.found;
+      excused = passed_excused b rules (n - 1) rule (MapsOne fresh) old new line there (advance_wider (λ c h. h.0) here.advance)
           (λ c counted fits q. here.excused c counted fits (fresh_assigned b.near fresh positions c at (within tried_here 0 rule.points [] c refl counted (points_of (setting_at tried_here) c fits)) q)) so_far.excused;
     })
 
@@ -395,11 +421,12 @@ best_of sizes f rules line class b found a is so_far gives =
     }
 
 -- ---- again
-one_found : (sizes : SizeField) (f : FrontState) (rules : List Rule) (line class : ℕ) (b : BaseLine) (found : Found) → IsBaseOf sizes f line class b → IsFind b rules found → HasOne sizes (state_of f) rules line class
-one_found sizes f rules line class b found is find =
-    subst (λ (g : FrontState). HasOne sizes (state_of g) rules line class) is.front (record {
+one_found : (sizes : SizeField) (f : FrontState) (rules : List Rule) (line class : ℕ) (fresh : List ℕ) (b : BaseLine) (found : Found) → IsBaseOf sizes f line class b → IsFind b rules found → MapsOne fresh found.points → HasOneAgain sizes (state_of f) rules line class fresh
+one_found sizes f rules line class fresh b found is find maps =
+    subst (λ (g : FrontState). HasOneAgain sizes (state_of g) rules line class fresh) is.front (record {
       attempt = find.attempt;
       of = subst (λ (g : FrontState). IsOf sizes (state_of g) rules line class find.attempt) (sym is.front) (of_line sizes f rules line class b find.attempt is find.on);
+      maps = subst (MapsOne fresh) (ap (λ (z : Found). z.points) find.is) maps;
       candidate = find.candidate;
     })
 
@@ -417,9 +444,9 @@ none_again sizes f rules line class fresh notes region r = record {
   none = λ t of m c. excused_none (state_of f) t notes (region_front (edges_of f) region) (r.excused t of (allowed (state_of f) t c) (on_its_front (state_of f) t c) m) c;
 }
 
-pub one_if_some : (sizes : SizeField) (f : FrontState) (rules : List Rule) (line class : ℕ) (b : BaseLine) (o : Option Found) → IsBaseOf sizes f line class b → IsFindIfAny b rules o → is_some o ≡ true → HasOne sizes (state_of f) rules line class
-one_if_some sizes f rules line class b None is find e = absurd (true≢false (sym e))
-one_if_some sizes f rules line class b (Some found) is find e = one_found sizes f rules line class b found is find
+pub one_if_some : (sizes : SizeField) (f : FrontState) (rules : List Rule) (line class : ℕ) (fresh : List ℕ) (b : BaseLine) (o : Option Found) → IsBaseOf sizes f line class b → IsFreshFindIfAny b rules fresh o → is_some o ≡ true → HasOneAgain sizes (state_of f) rules line class fresh
+one_if_some sizes f rules line class fresh b None is find e = absurd (true≢false (sym e))
+one_if_some sizes f rules line class fresh b (Some found) is find e = one_found sizes f rules line class fresh b found is find.0 find.1
 
 pub none_if_not : (o : Option Found) → is_some o ≡ false → o ≡ None
 none_if_not None e = refl

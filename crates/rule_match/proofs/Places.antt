@@ -55,7 +55,7 @@ all_mapped : {X Y : Type 0} (Q : X → Type 0) (P : Y → Type 0) (f : X → Y) 
 all_mapped Q P f [] h a = tt
 all_mapped Q P f (x ∷ xs) h a = (h x (0, omega arith, refl) a.0, all_mapped Q P f xs (λ y r q. h y (suc r.0, omega (arith, r.1), r.2) q) a.1)
 
-all_mapped_known : {X Y : Type 0} (P : Y → Type 0) (f : X → Y) (xs : List X) → ((x : X) → Contains xs x → P (f x)) → AllByRecursion P (map f xs)
+pub all_mapped_known : {X Y : Type 0} (P : Y → Type 0) (f : X → Y) (xs : List X) → ((x : X) → Contains xs x → P (f x)) → AllByRecursion P (map f xs)
 all_mapped_known P f [] h = tt
 all_mapped_known P f (x ∷ xs) h = (h x (0, omega arith, refl), all_mapped_known P f xs (λ y r. h y (suc r.0, omega (arith, r.1), r.2)))
 
@@ -90,7 +90,7 @@ module _ (st : State) (t : Attempt) where
   pub on_its_front : IsCandidate st t → FitsFront st t
   on_its_front c = record { on_front = c.on_front; at_lines = c.at_lines }
 
-  point_on : (n : ℕ) → IsFrontPoint st n → saved.IsFrontPoint (front_edges st.points st.front) (point_at st.points n)
+  pub point_on : (n : ℕ) → IsFrontPoint st n → saved.IsFrontPoint (front_edges st.points st.front) (point_at st.points n)
   point_on n a = end_in (point_at st.points n) (edge_of a.1) (front_edges st.points st.front) (edge_in edge_of a.1 st.front (a.0, a.2, a.3)) (of a.4)
     where
       of : (a.1.1 ≡ n) ⊎ (a.1.2 ≡ n) → (point_at st.points n ≡ (edge_of a.1).a) ⊎ (point_at st.points n ≡ (edge_of a.1).b)
@@ -106,11 +106,14 @@ module _ (st : State) (t : Attempt) where
   mapped_in : (line : ℕ × ℕ × ℕ) → IsMappedLine t line → IsIn (edge_of line) (places_of st t).lines
   mapped_in line a = subst (λ (z : ℕ × ℕ). IsIn (pair_edge st.points z) (places_of st t).lines) a.4 (edge_in (λ (l : MapLine). pair_edge st.points (mapped_pair t.points l)) a.1 t.text.lines (a.0, a.2, a.3))
 
-  pub fits : IsCandidate st t → refusal.DoesFit (front_edges st.points st.front) (places_of st t)
-  fits c = record {
-    points = all_mapped (IsFrontPoint st) (saved.IsFrontPoint (front_edges st.points st.front)) (point_at st.points) t.points (λ n r a. point_on n a) c.on_front;
-    lines = all_mapped (λ (l : MapLine). IsFrontPair st (mapped_pair t.points l)) (λ e. IsIn e (front_edges st.points st.front)) (λ l. pair_edge st.points (mapped_pair t.points l)) t.text.lines (λ l r a. line_on l a) c.at_lines;
+  pub fits_by : FitsFront st t → refusal.DoesFit (front_edges st.points st.front) (places_of st t)
+  fits_by h = record {
+    points = all_mapped (IsFrontPoint st) (saved.IsFrontPoint (front_edges st.points st.front)) (point_at st.points) t.points (λ n r a. point_on n a) h.on_front;
+    lines = all_mapped (λ (l : MapLine). IsFrontPair st (mapped_pair t.points l)) (λ e. IsIn e (front_edges st.points st.front)) (λ l. pair_edge st.points (mapped_pair t.points l)) t.text.lines (λ l r a. line_on l a) h.at_lines;
   }
+
+  pub fits : IsCandidate st t → refusal.DoesFit (front_edges st.points st.front) (places_of st t)
+  fits c = fits_by (on_its_front c)
 
   pub by_places : IsCandidate st t → refusal.IsCandidate (λ a. Unit {0}) st.points (front_edges st.points st.front) (places_of st t)
   by_places c = record {

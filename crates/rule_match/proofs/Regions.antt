@@ -11,9 +11,9 @@ use Rattle.std.specs.List.{Contains}
 use Rattle.std.specs.declared.vec.Vec.{Vec}
 use Rattle.std.specs.declared.alloc.Global.{Global}
 use Rattle.std.proofs.lemmas.Bool.{cases_lt}
-use Rattle.std.proofs.lemmas.List.Elements.{Contains-append_left, Contains-append_right}
+use Rattle.std.proofs.lemmas.List.Elements.{Contains-append_cases, Contains-append_left, Contains-append_right}
 use Rattle.rule_match.specs.Walk.{AreOf}
-use Rattle.rule_match.proofs.Turns.{element}
+use Rattle.rule_match.proofs.Turns.{any_fallback, element}
 
 pub kept : (fresh region common new : List ℕ) (n : ℕ) → new ≡ common ++ slice_index_or fresh n 0 ∷ [] → n < length fresh →
     ((p k : ℕ) → k < n → slice_index_or fresh k p ≡ p → Contains region p → Contains common p) →
@@ -33,6 +33,22 @@ passed fresh region common n w none h p k i f r = elim (cases_lt k n) [
   where
     other : {a b c : ℕ} → a ≡ c → b ≡ c → a ≡ b
     other e f = e ∙ sym f
+
+pub none_held : (p : ℕ) → Contains [] p → ⊥
+none_held p h = omega (arith, h.1)
+
+-- what a list of one number holds is this number
+pub single : (x p k : ℕ) → k < length (x ∷ []) → slice_index_or (x ∷ []) k p ≡ p → x ≡ p
+single x p zero h e = e
+single x p (suc k) h e = absurd (omega (arith, h))
+
+pub only_kept : (fresh common new : List ℕ) (n : ℕ) → new ≡ common ++ slice_index_or fresh n 0 ∷ [] → n < length fresh → ((p : ℕ) → Contains common p → Contains fresh p) → (p : ℕ) → Contains new p → Contains fresh p
+only_kept fresh common new n e w h p r = elim (Contains-append_cases common (slice_index_or fresh n 0 ∷ []) p (subst (λ (z : List ℕ). Contains z p) e r)) [
+  | inl i ↦ h p i
+  | inr i ↦
+      let there : Contains fresh (slice_index_or fresh n 0) = (n, w, any_fallback fresh n (slice_index_or fresh n 0) 0 w) in
+      subst (Contains fresh) (single (slice_index_or fresh n 0) p i.0 i.1 i.2) there
+]
 
 -- a region that is narrowed to numbers that the assignment has there
 pub narrowed : (regions : List (Vec ℕ Global)) (k : ℕ) (narrow : Vec ℕ Global) (b : List ℕ) → k < length regions → AreOf regions b →

@@ -81,16 +81,16 @@ named_in P ps (n ∷ ns) h l = (All-get_or P ps (n - 1) _ (below n (length ps) l
     below : (n m : ℕ) → 0 < n → n ≤ m → n - 1 < m
     below n m l k = omega arith
 
-all_named : (P : Point → Type 0) (ps : List Point) (els : List (List ℕ)) (count : ℕ) → length ps ≡ count → AllByRecursion P ps → AllByRecursion (λ e. (length e ≡ 3) × AllByRecursion (Names count) e) els → AllByRecursion (AllByRecursion P) (map (corners_of ps) els)
+pub all_named : (P : Point → Type 0) (ps : List Point) (els : List (List ℕ)) (count : ℕ) → length ps ≡ count → AllByRecursion P ps → AllByRecursion (λ e. (length e ≡ 3) × AllByRecursion (Names count) e) els → AllByRecursion (AllByRecursion P) (map (corners_of ps) els)
 all_named P ps [] count e h l = tt
 all_named P ps (ns ∷ els) count e h l = (named_in P ps ns h (subst (λ (m : ℕ). AllByRecursion (Names m) ns) (sym e) l.0.1), all_named P ps els count e h l.1)
 
-made_count : (m : Mapping) (k : ℕ) (ps : List Place) → length (made_from m k ps) ≡ length ps
+pub made_count : (m : Mapping) (k : ℕ) (ps : List Place) → length (made_from m k ps) ≡ length ps
 made_count m k [] = refl
 made_count m k (p ∷ ps) = ap suc (made_count m (k + 1) ps)
 
 -- the ends of mapped lines are mapped points
-lines_in : (pts : List Point) (ns : List ℕ) (count : ℕ) (lines : List MapLine) → length ns ≡ count → AllByRecursion (IsMapLine count) lines
+pub lines_in : (pts : List Point) (ns : List ℕ) (count : ℕ) (lines : List MapLine) → length ns ≡ count → AllByRecursion (IsMapLine count) lines
     → AllByRecursion (λ e. IsCorner e.a (corners_of pts ns) × IsCorner e.b (corners_of pts ns)) (map (λ l. pair_edge pts (mapped_pair ns l)) lines)
 lines_in pts ns count [] e h = tt
 lines_in pts ns count (l ∷ lines) e h = ((number_corner pts (nth ns l.i) ns (at l.i h.0.i), number_corner pts (nth ns l.j) ns (at l.j h.0.j)), lines_in pts ns count lines e h.1)

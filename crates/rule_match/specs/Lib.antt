@@ -28,3 +28,5 @@ pub mod Passed
 pub mod Near
 -- Leeways: how far mapped points are from their places at most, by the tolerances of a class.
 pub mod Leeways
+-- LookedAgain: when a refused line stays refused over an application.
+pub mod LookedAgain

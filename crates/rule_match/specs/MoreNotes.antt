@@ -18,7 +18,7 @@ use Rattle.rule_match.specs.Base.{Tried, attempt_of}
 use Rattle.rule_match.specs.Noted.{HasExcuse}
 use Rattle.rule_match.specs.Refused.{is_noted, witnesses, IsExcused, places_of}
 
-more_reasons : (points : List Point) (front ws vs : List Edge) (t : Attempt) → ((w : Edge) → IsIn w ws → IsIn w vs) → HasReason points front ws t → HasReason points front vs t
+pub more_reasons : (points : List Point) (front ws vs : List Edge) (t : Attempt) → ((w : Edge) → IsIn w ws → IsIn w vs) → HasReason points front ws t → HasReason points front vs t
 more_reasons points front ws vs t h (place_taken p a b) = place_taken p a b
 more_reasons points front ws vs t h (not_turned before cs after s n) = not_turned before cs after s n
 more_reasons points front ws vs t h (line_in_zone w i j n a) = line_in_zone w (h w i) j n a
@@ -36,7 +36,7 @@ any_more f (x ∷ xs) ys h = by_first (f x) h (any_more f xs ys)
     by_first false h k = k h
 
 -- a wider test keeps more front lines
-noted_more : (points : List Point) (keep more : ℕ × ℕ × ℕ → Bool) → ((line : ℕ × ℕ × ℕ) → keep line ≡ true → more line ≡ true) → (front : List (ℕ × ℕ × ℕ)) (w : Edge) →
+pub noted_more : (points : List Point) (keep more : ℕ × ℕ × ℕ → Bool) → ((line : ℕ × ℕ × ℕ) → keep line ≡ true → more line ≡ true) → (front : List (ℕ × ℕ × ℕ)) (w : Edge) →
     IsIn w (front_edges points (filter keep front)) → IsIn w (front_edges points (filter more front))
 noted_more points keep more h [] w i = i
 noted_more points keep more h (line ∷ front) w i = step (keep line) (more line) (h line) (noted_more points keep more h front w) i

@@ -21,7 +21,7 @@ use Rattle.rule_match.specs.Candidate.{Attempt, IsCandidate}
 use Rattle.rule_match.specs.Least.{rank}
 use Rattle.std.specs.List.{Any, Contains}
 use Rattle.rule_match.specs.declared.near.NearPoint.{NearPoint}
-use Rattle.rule_match.specs.Walk.{IsAdvance, IsFresh}
+use Rattle.rule_match.specs.Walk.{IsAdvance, IsFresh, HoldsFresh}
 use Rattle.rule_match.specs.Fitting.{fits_so_far}
 use Rattle.rule_match.specs.Trying.{near_at, ties}
 use Rattle.rule_match.specs.Refused.{IsAllowed, FitsFront, IsExcused}
@@ -102,18 +102,23 @@ MapsOne fresh points = Any (λ p. Contains fresh p) points
 
 -- of the rule's assignments on the base line those with a fresh number are passed
 pub record IsPassedAgain (t : Tried) (fresh : List ℕ) (old new : Progress) : Type 0 where
-  pub advance : IsAdvance (Holds t) (rank_of t) old new
+  pub advance : IsAdvance (HoldsFresh (Holds t) fresh) (rank_of t) old new
   pub excused : (b : List ℕ) → length b ≡ length t.rule.points
       → fits_so_far (ties (setting_at t)) b ≡ true → IsFresh fresh b → new.best ≡ None
       → HasExcuse t new.notes.items b
 
--- what is found is of a candidate on the base line; where nothing is, the attempts by the first k rules that map a fresh
+-- where something is found, it is of a candidate that maps a fresh point
+abbrev pub IsFreshFindIfAny : BaseLine → List Rule → List ℕ → Option Found → Type 0
+IsFreshFindIfAny b rules fresh None = Unit {0}
+IsFreshFindIfAny b rules fresh (Some found) = IsFind b rules found × MapsOne fresh found.points
+
+-- what is found is of a candidate on the base line that maps a fresh point; where nothing is, the attempts by the first k rules that map a fresh
 -- point are excused
 pub record IsAgainSoFar (b : BaseLine) (rules : List Rule) (k : ℕ) (fresh : List ℕ) (p : Progress) : Type 0 where
-  pub found : IsFindIfAny b rules p.best
+  pub found : IsFreshFindIfAny b rules fresh p.best
   pub excused : AreExcusedSoFar b rules k (MapsOne fresh) p
 
--- each near point whose number is fresh is at one of these positions
-abbrev pub AreFreshAt : List NearPoint → List ℕ → List ℕ → Type 0
-AreFreshAt near fresh positions = (k : ℕ) → k < length near →
-    Contains fresh (near_at near k).number → Contains positions k
+-- the near points whose numbers are fresh are those at these positions
+pub record AreFreshAt (near : List NearPoint) (fresh positions : List ℕ) : Type 0 where
+  pub all : (k : ℕ) → k < length near → Contains fresh (near_at near k).number → Contains positions k
+  pub only : (k : ℕ) → Contains positions k → Contains fresh (near_at near k).number

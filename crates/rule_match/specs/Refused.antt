@@ -7,7 +7,7 @@
 -- IsExcused        the attempt is no candidate, for a reason that the notes hold
 -- IsRefusedBy      each allowed attempt that fits the front is excused
 -- IsRefusedAgain   the same of those that map a fresh point
--- HasOne, HasNoneAgain   the line has a candidate; it has none that maps a fresh point
+-- HasOneAgain, HasNoneAgain   the line has a candidate that maps a fresh point; it has none
 use Rattle.std.specs.Prelude.{ℕ, ◌≡◌, ◌≤◌, nat_eq, List, length, map, pos, Bool, ◌&&◌, filter}
 use lib.Signed.{◌<ℤ◌}
 use Rattle.std.specs.List.{AllByRecursion, Any, Contains, IsDistinct, list_any}
@@ -87,10 +87,11 @@ pub record IsRefusedAgain (sizes : SizeField) (st : State) (rules : List Rule) (
   pub excused : (t : Attempt) → IsOf sizes st rules line class t → IsAllowed st t → FitsFront st t
       → Any (λ p. Contains fresh p) t.points → IsExcused st notes t
 
--- the line has a candidate at the class
-pub record HasOne (sizes : SizeField) (st : State) (rules : List Rule) (line class : ℕ) : Type 0 where
+-- some attempt of the line at the class that maps a fresh point is a candidate
+pub record HasOneAgain (sizes : SizeField) (st : State) (rules : List Rule) (line class : ℕ) (fresh : List ℕ) : Type 0 where
   pub attempt : Attempt
   pub of : IsOf sizes st rules line class attempt
+  pub maps : Any (λ p. Contains fresh p) attempt.points
   pub candidate : IsCandidate st attempt
 
 -- none of its attempts at the class that map a fresh point is a candidate

@@ -4,7 +4,8 @@
 -- IsSettled   an assignment has been passed: what is found isn't after it, and where nothing is found its reason is noted
 -- IsAdvance   how a search goes on
 -- AreOf       each number of an assignment is of its region
--- IsFresh     some number of an assignment is fresh
+-- DoesGoOn    an assignment that holds, begins with some numbers and goes on with one number of each region
+-- IsFresh     some number of an assignment is fresh; HoldsFresh: and it holds
 use Rattle.std.specs.Prelude.{ℕ, ◌≡◌, ◌<◌, ◌⊎◌, length, slice_index_or, List, ◌++◌, Option, None, Some}
 use Rattle.std.specs.List.{AllZip, Contains}
 use Rattle.std.specs.declared.vec.Vec.{Vec}
@@ -39,6 +40,15 @@ pub record IsAdvance (holds : List ℕ → Type 0) (rank : List ℕ → Found) (
 abbrev pub AreOf : List (Vec ℕ Global) → List ℕ → Type 0
 AreOf regions ps = AllZip (λ region p. Contains region.items p) regions ps
 
+-- the assignment holds, and goes on from the chosen numbers with one number of each region
+abbrev pub DoesGoOn : (List ℕ → Type 0) → List ℕ → List (Vec ℕ Global) → List ℕ → Type 0
+DoesGoOn holds chosen regions b =
+    holds b × ((rest : List ℕ) × (b ≡ chosen ++ rest) × AreOf regions rest)
+
 -- some number of the assignment is fresh
 abbrev pub IsFresh : List ℕ → List ℕ → Type 0
 IsFresh fresh b = (k : ℕ) × (k < length b) × Contains fresh (slice_index_or b k 0)
+
+-- the assignment holds, and some number of it is fresh
+abbrev pub HoldsFresh : (List ℕ → Type 0) → List ℕ → List ℕ → Type 0
+HoldsFresh holds fresh b = holds b × IsFresh fresh b

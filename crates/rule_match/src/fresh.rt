@@ -3,7 +3,7 @@
 //! passed twice, which changes nothing.
 
 ghost use Rattle.std.specs.Prelude.{◌≡◌, ℕ, ◌<◌, List, [], length, IfOk, OnOk, Contains, slice_index_or};
-ghost use Rattle.rule_match.specs.Walk.{IsSettled, IsAdvance, AreOf, IsFresh};
+ghost use Rattle.rule_match.specs.Walk.{IsSettled, IsAdvance, AreOf, IsFresh, HoldsFresh};
 
 use super::progress::Progress;
 use super::walk::{Trial, walk};
@@ -12,8 +12,9 @@ use std::mem;
 
 /// The numbers of the region that are fresh.
 fn fresh_of(alloc: Global, region: &[usize], fresh: &[usize]) -> Result<Vec<usize>, AllocError>
-    ensures { IfOk result
+    ensures all { IfOk result
         (λ v. (p : ℕ) → Contains region.now p → Contains fresh.now p → Contains v.items p) }
+    ensures only { IfOk result (λ v. (p : ℕ) → Contains v.items p → Contains fresh.now p) }
 {
     let mut common = Vec::new(alloc);
     for p in fresh {
@@ -32,7 +33,8 @@ pub fn search_fresh<T: Trial>(
     progress: &mut Progress,
 ) -> Result<(), AllocError>
     ensures advance { OnOk result
-        (IsAdvance (T.holds trial.now) (T.rank trial.now) progress.old progress.new) }
+        (IsAdvance (HoldsFresh (T.holds trial.now) fresh.now) (T.rank trial.now)
+        progress.old progress.new) }
     ensures settled { OnOk result
         ((b : List ℕ) → length b ≡ T.count trial.now → T.fits trial.now b → IsFresh fresh.now b →
         IsSettled (T.holds trial.now) (T.reasons trial.now) (T.rank trial.now) progress.new b) }
@@ -61,7 +63,8 @@ fn search_at<T: Trial>(
     ensures regions { OnOk result (regions.new.items ≡ regions.old.items) }
     ensures empty { OnOk result (chosen.new.items ≡ []) }
     ensures advance { OnOk result
-        (IsAdvance (T.holds trial.now) (T.rank trial.now) progress.old progress.new) }
+        (IsAdvance (HoldsFresh (T.holds trial.now) fresh.now) (T.rank trial.now)
+        progress.old progress.new) }
     ensures settled { OnOk result
         ((b : List ℕ) → AreOf regions.old.items b → T.fits trial.now b →
         Contains fresh.now (slice_index_or b k 0) →

@@ -4,7 +4,7 @@ ghost use Rattle.std.specs.Prelude.{ℕ, List, [], ◌++◌, ◌≡◌, ◌<◌,
 ghost use Rattle.rule_reader.specs.declared.rule.Rule.{Rule};
 ghost use Rattle.rule_reader.specs.Normal.{IsRule};
 ghost use Rattle.size_field.specs.Size.{SizeField};
-ghost use Rattle.state_law.specs.State.{State, front_edges};
+ghost use Rattle.state_law.specs.State.{State, front_edges, point_at};
 ghost use Rattle.state_law.specs.Refusal.{IsFront, HasReason, IsStep, Attempt as PlacedAttempt, DoesFit as IsOnFront};
 ghost use Rattle.state_law.specs.Saved.{AreInBox, IsCorner};
 ghost use Rattle.state_law.specs.Gluing.{glue_all, MayAllBeGlued};
@@ -16,10 +16,12 @@ ghost use Rattle.rule_match.specs.declared.progress.Note.{Note as Noted};
 ghost use Rattle.rule_match.specs.Candidate.{Attempt, IsCandidate};
 ghost use Rattle.rule_match.specs.Least.{HasNone, IsLeast};
 ghost use Rattle.std.specs.List.{AllByRecursion, Contains};
-ghost use Rattle.rule_maps.specs.Frame.{LocalFrame};
+ghost use Rattle.rule_maps.specs.Frame.{IsInRange, LocalFrame};
 ghost use Rattle.state_law.specs.Reach.{AreAlikeIn, IsWithinReach};
 ghost use Rattle.rule_match.specs.Near.{AreBoxesApart, IsAlikeNear, IsBox, IsCovered, IsCoveredAt, IsCoveredBy, IsFarLine, IsReachBox, IsStayingLine, reach_lo, reach_hi, whole_grid};
-ghost use Rattle.rule_match.specs.Refused.{IsRefusedBy, IsExcused, places_of};
+ghost use Rattle.rule_match.specs.Refused.{IsRefusedAgain, IsRefusedBy, IsExcused, places_of};
+ghost use Rattle.rule_match.specs.LookedAgain.{AreFresh, DoStand, IsGluedOn, IsUnmapped, Pair};
+ghost use Rattle.rule_match.specs.Walk.{BeginsWith};
 ghost use Rattle.rule_match.specs.declared.near.NearPoint.{NearPoint as NearOne};
 ghost use Rattle.rule_match.specs.Trying.{Setting, ties};
 ghost use Rattle.rule_match.specs.Around.{IsAround, setting_of, IsTried};
@@ -103,6 +105,34 @@ pub fn law_again()
         IsStep (λ u. u ≡ t) (λ p. IsCorner p t.mapped) points more front elements witnesses →
         HasReason points front witnesses t → IsOnFront (glue_all front elements) t →
         HasReason (points ++ more) (glue_all front elements) witnesses t }
+{}
+
+/// A line that is refused by notes stays refused over an application where none of its attempts that map
+/// a fresh point applies, by the notes that have grown by the reasons of these. Where no point is fresh
+/// nothing has to be looked at again. A point out of the line's range is mapped by none, and a note whose
+/// line has left the front is of no more use.
+pub fn law_still_refused()
+    ensures again { (p : Pair) (st later : State) (more : List Point)
+        (elements : List (List Point)) (f : LocalFrame) (notes : List Noted) (fresh : List ℕ) →
+        AllByRecursion IsRule p.rules → IsGluedOn st later more elements →
+        IsStayingLine p.sizes st later p.line f → AreFresh p st later notes fresh →
+        (grown : List Noted) → BeginsWith grown notes →
+        IsRefusedBy p.sizes st p.rules p.line.0 p.class notes →
+        IsRefusedAgain p.sizes later p.rules p.line.0 p.class fresh grown →
+        IsRefusedBy p.sizes later p.rules p.line.0 p.class grown }
+    ensures untouched { (p : Pair) (st later : State) (more : List Point)
+        (elements : List (List Point)) (f : LocalFrame) (notes : List Noted) →
+        AllByRecursion IsRule p.rules → IsGluedOn st later more elements →
+        IsStayingLine p.sizes st later p.line f → AreFresh p st later notes [] →
+        IsRefusedBy p.sizes st p.rules p.line.0 p.class notes →
+        IsRefusedBy p.sizes later p.rules p.line.0 p.class notes }
+    ensures far { (p : Pair) (st later : State) (more : List Point)
+        (elements : List (List Point)) (f : LocalFrame) → IsGluedOn st later more elements →
+        IsStayingLine p.sizes st later p.line f → (n : ℕ) →
+        ¬ (IsInRange f (point_at later.points n)) → IsUnmapped p later n }
+    ensures fewer { (sizes : SizeField) (rules : List Rule) (class line : ℕ) (st : State)
+        (notes left : List Noted) → DoStand st.front notes left →
+        IsRefusedBy sizes st rules line class notes → IsRefusedBy sizes st rules line class left }
 {}
 
 /// An assignment that fits in the rule's order fits in the order of mapping, from which it is had back.

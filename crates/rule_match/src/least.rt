@@ -46,7 +46,8 @@ pub(crate) fn may_apply(rule: &Compiled<'_>, class: u32) -> bool
 }
 
 /// Whether some rule may apply at the class or below it: it is live, and its quality is at most the class.
-/// Where none may, no line of any front has a candidate there.
+/// Where none may, no line of any front has a candidate there. Source: NETGEN tries a rule from its
+/// quality on (Schoeberl 1997).
 pub fn some_may_apply(rules: &RuleSet<'_>, class: u32) -> bool
     ensures some { result ≡ true → SomeMayApply class rules.now }
     ensures none { result ≡ false → NoneApplies class rules.now }

@@ -8,7 +8,7 @@
 ghost use Rattle.std.specs.Prelude.{◌≡◌, ◌≤◌, ◌-◌, ℕ, List, length, true, false, IsSome, None, IfOk, OnOk};
 ghost use Rattle.front_chain.specs.Front.{line_at, state_of};
 ghost use Rattle.rule_match.specs.Walk.{BeginsWith};
-ghost use Rattle.rule_match.specs.Refused.{HasNoneAgain, HasOne, IsRefusedAgain};
+ghost use Rattle.rule_match.specs.Refused.{HasNoneAgain, HasOneAgain, IsRefusedAgain};
 ghost use Rattle.rule_match.specs.Passed.{AreFreshAt, IsAgainSoFar};
 
 use super::base::Base;
@@ -99,7 +99,7 @@ pub fn again(
     requires class_least { 1 ≤ class }
     requires class_greatest { class ≤ 16 }
     ensures one { IfOk result (λ yes. yes ≡ true →
-        HasOne sizes.now (state_of front.now) rules.now line class) }
+        HasOneAgain sizes.now (state_of front.now) rules.now line class fresh.now) }
     ensures none { IfOk result (λ yes. yes ≡ false →
         HasNoneAgain sizes.now (state_of front.now) rules.now line class fresh.now) }
     ensures noted { IfOk result (λ yes. yes ≡ false →

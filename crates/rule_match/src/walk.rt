@@ -8,7 +8,7 @@
 ghost use Rattle.std.specs.Prelude.{◌≡◌, ℕ, ◌+◌, ◌≤◌, List, [], ◌∷◌, ◌++◌, length, true, false, None, IfOk, OnOk, IfSome, IfNone};
 ghost use Rattle.rule_match.specs.declared.found.Found.{Found as Find};
 ghost use Rattle.rule_match.specs.declared.progress.Note.{Note as Noted};
-ghost use Rattle.rule_match.specs.Walk.{BeginsWith, IsSettled, IsAdvance, AreOf};
+ghost use Rattle.rule_match.specs.Walk.{BeginsWith, IsSettled, IsAdvance, AreOf, DoesGoOn};
 
 use super::found::{Found, comes_first};
 use super::progress::{Note, Progress};
@@ -83,7 +83,8 @@ fn settle<T: Trial>(
     requires complete { length chosen.now ≡ T.count trial.now }
     requires fits { T.fits trial.now chosen.now }
     ensures advance { OnOk result
-        (IsAdvance (T.holds trial.now) (T.rank trial.now) progress.old progress.new) }
+        (IsAdvance (DoesGoOn (T.holds trial.now) chosen.now []) (T.rank trial.now)
+        progress.old progress.new) }
     ensures settled { OnOk result
         (IsSettled (T.holds trial.now) (T.reasons trial.now) (T.rank trial.now)
         progress.new chosen.now) }
@@ -113,7 +114,8 @@ pub(crate) fn walk<T: Trial>(
     requires fits { T.fits trial.now chosen.now.items }
     ensures chosen { OnOk result (chosen.new.items ≡ chosen.old.items) }
     ensures advance { OnOk result
-        (IsAdvance (T.holds trial.now) (T.rank trial.now) progress.old progress.new) }
+        (IsAdvance (DoesGoOn (T.holds trial.now) chosen.old.items regions.now) (T.rank trial.now)
+        progress.old progress.new) }
     ensures settled { OnOk result
         ((rest : List ℕ) → AreOf regions.now rest → T.fits trial.now (chosen.old.items ++ rest) →
         IsSettled (T.holds trial.now) (T.reasons trial.now) (T.rank trial.now)
@@ -147,7 +149,8 @@ fn follow<T: Trial>(
     requires fits { T.fits trial.now chosen.now.items }
     ensures chosen { OnOk result (chosen.new.items ≡ chosen.old.items) }
     ensures advance { OnOk result
-        (IsAdvance (T.holds trial.now) (T.rank trial.now) progress.old progress.new) }
+        (IsAdvance (DoesGoOn (T.holds trial.now) (chosen.old.items ++ p ∷ []) regions.now)
+        (T.rank trial.now) progress.old progress.new) }
     ensures settled { OnOk result
         ((rest : List ℕ) → AreOf regions.now rest →
         T.fits trial.now (chosen.old.items ++ p ∷ rest) →

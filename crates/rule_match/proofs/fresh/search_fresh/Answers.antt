@@ -9,7 +9,7 @@ use Rattle.std.specs.declared.vec.Vec.{Vec}
 use Rattle.std.specs.declared.alloc.Global.{Global}
 use Rattle.std.proofs.lemmas.Bool.{cases_lt}
 use Rattle.rule_match.specs.Walk.{AreOf}
-use Rattle.rule_match.proofs.Advances.{advance_same, advance_chain, settled_later}
+use Rattle.rule_match.proofs.Advances.{advance_same, advance_chain, advance_wider, settled_later}
 use Rattle.rule_match.proofs.fresh.search_fresh.Goals as goal
 
 pub loop-k-init : goal.loop-k-init
@@ -27,7 +27,7 @@ loop-k-preserved g c = record {
   empty = c.in_ok-search_at.ensures.empty;
   advance = advance_chain c.loop-k.invariant.advance c.in_ok-search_at.ensures.advance;
   settled = λ b n h a f i. elim (cases_lt n c.loop-k.k) [
-    | inl j ↦ settled_later (g.met.T.Trial.more c.args.trial.now) b c.in_ok-search_at.ensures.advance (c.loop-k.invariant.settled b n j a f i)
+    | inl j ↦ settled_later (g.met.T.Trial.more c.args.trial.now) b (advance_wider (λ d e. e.0) c.in_ok-search_at.ensures.advance) (c.loop-k.invariant.settled b n j a f i)
     | inr j ↦ let e : n ≡ c.loop-k.k = omega (arith, h, j) in
         c.in_ok-search_at.ensures.settled b (subst (λ (z : List (Vec ℕ Global)). AreOf z b) (sym c.loop-k.invariant.regions) a) f (subst (λ (z : ℕ). Contains c.args.fresh.now (slice_index_or b z 0)) e i)
   ];

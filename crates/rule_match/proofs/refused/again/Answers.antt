@@ -3,7 +3,7 @@ use Rattle.rule_match.proofs.OverRules.{none_again, none_if_not, one_if_some, re
 use Rattle.rule_match.proofs.refused.again.Goals as goal
 
 pub returns-clause-one : goal.returns-clause-one
-returns-clause-one c = λ yes. one_if_some c.args.sizes.now c.args.front.now c.args.rules.now c.args.line c.args.class c.in_ok-base.base c.pass_rules_again.new.progress.best c.in_ok-base.ensures.base c.in_ok-pass_rules_again.ensures.so_far.found (sym c.is_some.ensures ∙ yes)
+returns-clause-one c = λ yes. one_if_some c.args.sizes.now c.args.front.now c.args.rules.now c.args.line c.args.class c.args.fresh.now c.in_ok-base.base c.pass_rules_again.new.progress.best c.in_ok-base.ensures.base c.in_ok-pass_rules_again.ensures.so_far.found (sym c.is_some.ensures ∙ yes)
 
 pub returns-clause-none : goal.returns-clause-none
 returns-clause-none c = λ no. none_again c.args.sizes.now c.args.front.now c.args.rules.now c.args.line c.args.class c.args.fresh.now c.pass_rules_again.new.progress.notes.items c.points-points.ensures.holds.region

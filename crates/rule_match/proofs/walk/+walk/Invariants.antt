@@ -1,5 +1,5 @@
 use Rattle.std.proofs.Common.{◌≡◌, ℕ, ◌+◌, List, ◌∷◌, ◌++◌, length, ◌*◌, ◌<◌, slice_index_or}
-use Rattle.rule_match.specs.Walk.{IsSettled, IsAdvance, AreOf}
+use Rattle.rule_match.specs.Walk.{IsSettled, IsAdvance, AreOf, DoesGoOn}
 use Rattle.rule_match.proofs.walk.+walk.Given as goal
 
 abbrev pub decreases-follow : goal.decreases-follow
@@ -12,7 +12,7 @@ decreases-walk g l = 2 * length l.regions.now
 abbrev pub invariant-walk-loop-p : goal.invariant-walk-loop-p
 invariant-walk-loop-p g l = record {
   chosen : l.chosen.items ≡ l.initial.chosen.items;
-  advance : IsAdvance (g.T.Trial.holds l.trial) (g.T.Trial.rank l.trial) l.initial.progress l.progress;
+  advance : IsAdvance (DoesGoOn (g.T.Trial.holds l.trial) l.initial.chosen.items l.regions) (g.T.Trial.rank l.trial) l.initial.progress l.progress;
   settled : (k q : ℕ) (rest : List ℕ) → k < l.p-index → slice_index_or l.p-items k q ≡ q → AreOf l.others rest → g.T.Trial.fits l.trial (l.initial.chosen.items ++ q ∷ rest) →
       IsSettled (g.T.Trial.holds l.trial) (g.T.Trial.reasons l.trial) (g.T.Trial.rank l.trial) l.progress (l.initial.chosen.items ++ q ∷ rest);
 }

@@ -1,5 +1,6 @@
 use mathlib.Core.Path.{refl}
-use Rattle.rule_match.proofs.Advances.{advance_same, advance_noted, settled_found, settled_never}
+use Rattle.rule_match.proofs.Advances.{advance_found, advance_same, advance_noted, settled_found, settled_never}
+use Rattle.rule_match.proofs.GoingOn.{whole}
 use Rattle.rule_match.proofs.walk.settle.Goals as goal
 
 -- no candidate whatever the front holds
@@ -14,6 +15,10 @@ pub returns-then-not-comes_first-clause-advance : goal.returns-then-not-comes_fi
 returns-then-not-comes_first-clause-advance g c = advance_same c.args.progress.now
 
 -- a new best
+pub returns-then-branch-clause-advance : goal.returns-then-branch-clause-advance
+returns-then-branch-clause-advance g c = advance_found c.args.progress.now _ c.in-Some.found c.args.chosen.now refl (c.comes_first.ensures.first c.if-not-comes_first.false) c.in_ok-judge.ensures.notes
+    (whole (g.T.Trial.holds c.args.trial.now) c.args.chosen.now (c.in_ok-judge.ensures.held c.if-branch.true)) c.in-Some.ensures.found
+
 pub returns-then-branch-clause-settled : goal.returns-then-branch-clause-settled
 returns-then-branch-clause-settled g c = settled_found _ c.in-Some.found c.args.chosen.now refl c.in-Some.ensures.found
 
