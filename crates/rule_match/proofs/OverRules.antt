@@ -41,7 +41,7 @@ use Rattle.std.specs.Prelude.{is_some, nat_eq, ◌++◌}
 use Rattle.state_law.specs.Region.{IsRegion}
 use Rattle.state_law.proofs.Region.{region_front}
 use Rattle.std.proofs.lemmas.List.{get_or-map, length-map}
-use Rattle.rule_match.specs.MoreNotes.{excused_more}
+use Rattle.rule_match.specs.MoreNotes.{excused_after, excused_more}
 use Rattle.rule_match.proofs.Places.{allowed, excused_none, on_its_front}
 use Rattle.rule_match.proofs.Advances.{advance_wider, none_before, no_worse_chain}
 use Rattle.rule_match.proofs.Regions.{single}
@@ -438,6 +438,10 @@ refused_again sizes f rules line class fresh b p is noting none so_far = record 
       subst (λ (g : FrontState). IsExcused (state_of g) p.notes.items t) is.front (so_far.excused.excused none noting t on (all_rules rules t t.text on.first on.is_rule) m
       (subst (λ (g : FrontState). IsAllowed (state_of g) t) (sym is.front) a) (subst (λ (g : FrontState). FitsFront (state_of g) t) (sym is.front) h));
 }
+
+-- the same where more was noted before
+pub again_after : (sizes : SizeField) (st : State) (rules : List Rule) (line class : ℕ) (fresh : List ℕ) (before notes : List Note) → IsRefusedAgain sizes st rules line class fresh notes → IsRefusedAgain sizes st rules line class fresh (before ++ notes)
+again_after sizes st rules line class fresh before notes r = record { excused = λ t of a h m. excused_after st before notes t (r.excused t of a h m) }
 
 pub none_again : (sizes : SizeField) (f : FrontState) (rules : List Rule) (line class : ℕ) (fresh : List ℕ) (notes : List Note) → IsRegion (edges_of f) → IsRefusedAgain sizes (state_of f) rules line class fresh notes → HasNoneAgain sizes (state_of f) rules line class fresh
 none_again sizes f rules line class fresh notes region r = record {

@@ -53,5 +53,18 @@ pub excused_more : (st : State) (notes more : List Note) (t : trial.Attempt) →
 excused_more st notes more t r = more_reasons st.points (front_edges st.points st.front) (witnesses st notes t) (witnesses st (notes ++ more) t) (places_of st t)
     (noted_more st.points (is_noted notes t.points) (is_noted (notes ++ more) t.points) (λ line h. any_more (λ note. nat_eq note.line line.0 && list_any (nat_eq note.point) t.points) notes more h) st.front) r
 
+-- what is noted beside a point is noted where more was noted before
+any_after : (f : Note → Bool) (xs ys : List Note) → list_any f ys ≡ true → list_any f (xs ++ ys) ≡ true
+any_after f [] ys h = h
+any_after f (x ∷ xs) ys h = by_first (f x) (any_after f xs ys h)
+  where
+    by_first : {t : Bool} (r : Bool) → t ≡ true → (r || t) ≡ true
+    by_first true h = refl
+    by_first false h = h
+
+pub excused_after : (st : State) (notes more : List Note) (t : trial.Attempt) → IsExcused st more t → IsExcused st (notes ++ more) t
+excused_after st notes more t r = more_reasons st.points (front_edges st.points st.front) (witnesses st more t) (witnesses st (notes ++ more) t) (places_of st t)
+    (noted_more st.points (is_noted more t.points) (is_noted (notes ++ more) t.points) (λ line h. any_after (λ note. nat_eq note.line line.0 && list_any (nat_eq note.point) t.points) notes more h) st.front) r
+
 pub more_excuses : (t : Tried) (notes more : List Note) (b : List ℕ) → HasExcuse t notes b → HasExcuse t (notes ++ more) b
 more_excuses t notes more b h = λ noting allowed. excused_more (state_of t.base.front) notes more (attempt_of t b) (h noting allowed)

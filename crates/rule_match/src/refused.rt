@@ -5,7 +5,7 @@
 //!    the line.
 //! 2. So only assignments that map one of these points are passed, and the notes grow by their reasons.
 
-ghost use Rattle.std.specs.Prelude.{◌≡◌, ◌≤◌, ◌-◌, ℕ, List, length, true, false, IsSome, None, IfOk, OnOk};
+ghost use Rattle.std.specs.Prelude.{◌≡◌, ◌≤◌, ◌-◌, ℕ, List, length, true, false, IsSome, None, IfOk, OnOk, OnErr};
 ghost use Rattle.front_chain.specs.Front.{line_at, state_of};
 ghost use Rattle.rule_match.specs.Walk.{BeginsWith};
 ghost use Rattle.rule_match.specs.Refused.{HasNoneAgain, HasOneAgain, IsRefusedAgain};
@@ -20,7 +20,6 @@ use front_chain::Front;
 use rule_maps::RuleSet;
 use size_field::Sizes;
 use std::alloc::{AllocError, Global};
-use std::mem;
 
 /// The positions of the near points that are fresh.
 fn fresh_positions(alloc: Global, base: &Base<'_>, fresh: &[u64]) -> Result<Vec<usize>, AllocError>
@@ -82,7 +81,7 @@ fn pass_rules_again(
 }
 
 /// Whether the line has a candidate at the class, of those that map one of the fresh points. Where it
-/// has none, the notes hold the reasons of these attempts.
+/// has none, the notes hold the reasons of these attempts. After want of memory they are as before.
 ///
 /// Errors: want of memory.
 pub fn again(
@@ -105,15 +104,16 @@ pub fn again(
     ensures noted { IfOk result (λ yes. yes ≡ false →
         IsRefusedAgain sizes.now (state_of front.now) rules.now line class fresh.now
         notes.new.items) }
-    ensures kept { OnOk result (BeginsWith notes.new.items notes.old.items) }
+    ensures kept { BeginsWith notes.new.items notes.old.items }
+    ensures unchanged { OnErr result (notes.new.items ≡ notes.old.items) }
 {
     let _points = front.points();
     let base = Base::new(alloc, front, sizes, line, class, true)?;
     let mut progress = Progress {
         best: None,
-        notes: mem::replace(notes, Vec::new(alloc)),
+        notes: Vec::new(alloc),
     };
     pass_rules_again(alloc, &base, rules, fresh, &mut progress)?;
-    *notes = progress.notes;
+    notes.append(&mut progress.notes)?;
     Ok(progress.best.is_some())
 }

@@ -1,5 +1,10 @@
-use Rattle.std.proofs.Common.{◌∙◌, sym}
-use Rattle.rule_match.proofs.OverRules.{none_again, none_if_not, one_if_some, refused_again}
+use Rattle.std.proofs.Common.{◌∙◌, List, subst, sym}
+use Rattle.front_chain.specs.Front.{state_of}
+use Rattle.rule_match.specs.Refused.{IsRefusedAgain}
+use Rattle.rule_match.specs.Walk.{BeginsWith}
+use Rattle.rule_match.specs.declared.progress.Note.{Note}
+use Rattle.rule_match.proofs.Advances.{begins_same}
+use Rattle.rule_match.proofs.OverRules.{again_after, none_again, none_if_not, one_if_some, refused_again}
 use Rattle.rule_match.proofs.refused.again.Goals as goal
 
 pub returns-clause-one : goal.returns-clause-one
@@ -11,6 +16,10 @@ returns-clause-none c = λ no. none_again c.args.sizes.now c.args.front.now c.ar
     (none_if_not c.pass_rules_again.new.progress.best (sym c.is_some.ensures ∙ no)) c.in_ok-pass_rules_again.ensures.so_far)
 
 pub returns-clause-noted : goal.returns-clause-noted
-returns-clause-noted c = λ no.
-    refused_again c.args.sizes.now c.args.front.now c.args.rules.now c.args.line c.args.class c.args.fresh.now c.in_ok-base.base c.pass_rules_again.new.progress c.in_ok-base.ensures.base c.in_ok-base.ensures.noting
-    (none_if_not c.pass_rules_again.new.progress.best (sym c.is_some.ensures ∙ no)) c.in_ok-pass_rules_again.ensures.so_far
+returns-clause-noted c = λ no. subst (IsRefusedAgain c.args.sizes.now (state_of c.args.front.now) c.args.rules.now c.args.line c.args.class c.args.fresh.now) (sym c.in_ok-append.ensures.items)
+    (again_after c.args.sizes.now (state_of c.args.front.now) c.args.rules.now c.args.line c.args.class c.args.fresh.now c.args.notes.now.items c.pass_rules_again.new.progress.notes.items
+    (refused_again c.args.sizes.now c.args.front.now c.args.rules.now c.args.line c.args.class c.args.fresh.now c.in_ok-base.base c.pass_rules_again.new.progress c.in_ok-base.ensures.base c.in_ok-base.ensures.noting
+    (none_if_not c.pass_rules_again.new.progress.best (sym c.is_some.ensures ∙ no)) c.in_ok-pass_rules_again.ensures.so_far))
+
+pub returns-in_err-append-clause-kept : goal.returns-in_err-append-clause-kept
+returns-in_err-append-clause-kept c = subst (λ (ns : List Note). BeginsWith ns c.args.notes.now.items) (sym c.in_err-append.ensures.items) (begins_same c.args.notes.now.items)
