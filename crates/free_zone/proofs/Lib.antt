@@ -15,3 +15,5 @@ pub mod Told
 pub mod Worked
 -- OneAnswer: an answer is the only one.
 pub mod OneAnswer
+-- Listed: the near lines looked at one by one, and the least in the way at the end.
+pub mod Listed

@@ -42,7 +42,7 @@ begun zone m near at h all = record {
 
 -- ---- one line further
 -- what is found was found before, or is new
-kept_or_new : (P Q : ℕ → Type 0) (old new : Option ℕ) → IfSome old P → IfSome new (λ v. (old ≡ Some v) ⊎ Q v) → ((v : ℕ) → Q v → P v) → IfSome new P
+pub kept_or_new : (P Q : ℕ → Type 0) (old new : Option ℕ) → IfSome old P → IfSome new (λ v. (old ≡ Some v) ⊎ Q v) → ((v : ℕ) → Q v → P v) → IfSome new P
 kept_or_new P Q old None h i f = tt
 kept_or_new P Q old (Some v) h (inl e) f = subst (λ o. IfSome o P) e h
 kept_or_new P Q old (Some v) h (inr q) f = f v q

@@ -3,7 +3,8 @@
 -- IsCounted   a number was looked at
 -- IsPassed    a line was looked at, and the point from which it goes
 -- IsFound     all points and lines were
-use Rattle.std.specs.Prelude.{◌≡◌, ◌⊎◌, ℕ, ◌≤◌, List, Option, Some, None, IfSome}
+-- IsLinePassed, AreLinesPassed   a line was looked at for itself alone; the first of a list of lines were
+use Rattle.std.specs.Prelude.{◌≡◌, ◌⊎◌, ℕ, ◌<◌, ◌≤◌, List, Option, Some, None, IfSome, slice_index_or}
 use Rattle.std.specs.List.{AllByRecursion, Contains}
 use Rattle.grid_geom.specs.declared.Point.{Point}
 use Rattle.front_chain.specs.Front.{line_at}
@@ -38,3 +39,18 @@ pub record IsFound (zone : List Point) (m : Mapped) (found : Found) : Type 0 whe
       ⊎ IsAtMost found.point n
   pub lines : AllByRecursion (λ line. IsFreeLine zone m (line.1, line.2)
       ⊎ IsAtMost found.line line.0) m.front.lines
+
+-- ---- lines alone
+-- if there is a front line k, it is free
+abbrev pub IsFreeAt : List Point → Mapped → ℕ → Type 0
+IsFreeAt zone m k = (ends : ℕ × ℕ) → line_at m.front.lines k ≡ Some ends → IsFreeLine zone m ends
+
+-- the front line k was looked at
+abbrev pub IsLinePassed : List Point → Mapped → ℕ → Option ℕ → Option ℕ → Type 0
+IsLinePassed zone m k old new = IsCounted (IsFreeAt zone m k) (IsLineInWay zone m k) k old new
+
+-- of the front lines with these numbers the first k were: what is found is in the way, and each of them is free or no less
+pub record AreLinesPassed (zone : List Point) (m : Mapped) (numbers : List ℕ) (k : ℕ) (found : Option ℕ) : Type 0 where
+  pub line : IfSome found (IsLineInWay zone m)
+  pub passed : (i : ℕ) → i < k → IsFreeAt zone m (slice_index_or numbers i 0)
+      ⊎ IsAtMost found (slice_index_or numbers i 0)

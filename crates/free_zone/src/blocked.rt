@@ -1,16 +1,17 @@
 //! What of a front is in the way of a zone.
-ghost use Rattle.std.specs.Prelude.{◌≡◌, ◌≢◌, ◌↔◌, ◌⊎◌, length, IsTrue, IsFalse, IfNone, IfSome, is_some};
-ghost use Rattle.std.specs.List.{Any, Contains};
+ghost use Rattle.std.specs.Prelude.{◌≡◌, ◌≢◌, ◌↔◌, ◌⊎◌, length, IsTrue, IsFalse, IfNone, IfSome, IfOk, is_some, true};
+ghost use Rattle.std.specs.List.{All, Any, Contains};
 ghost use Rattle.state_law.specs.State.{IsListed, point_at};
 ghost use Rattle.front_chain.specs.Front.{line_at, is_near};
 ghost use Rattle.free_zone.specs.InTheWay.{mapping, nth, mapped_pair, IsMappedLine, IsInside, IsBeside, IsFreePoint, IsFreeLine, HasNoLine, IsLineInWay, IsLeast, IsAnswer};
-ghost use Rattle.free_zone.specs.Walked.{IsCounted, IsPassed, IsFound};
+ghost use Rattle.free_zone.specs.Walked.{IsAtMost, IsCounted, IsPassed, IsFound, IsLinePassed, AreLinesPassed};
 
 use crate::mapped::is_mapped;
 use crate::zone::Zone;
 use front_chain::Front;
 use grid_geom::{apart, in_open};
 use rule_maps::Compiled;
+use std::alloc::{AllocError as OutOfMemory, Global};
 
 /// What is in the way of a rule.
 #[derive(Clone, Copy, Debug, PartialEq, Eq)]
@@ -26,6 +27,16 @@ pub enum Blocker {
 struct Found {
     point: Option<u64>,
     line: Option<u64>,
+}
+
+/// Whether a number was found, and it is at most n.
+fn is_at_most(found: &Option<u64>, n: u64) -> bool
+    ensures { IsTrue result ↔ IsAtMost found.now n }
+{
+    match found {
+        Some(least) => *least <= n,
+        None => false,
+    }
 }
 
 /// The least number in the way, after one more was looked at.
@@ -140,16 +151,69 @@ impl Zone {
         }
     }
 
-    /// The least front line that is neither mapped nor apart from the zone, if there is one. It takes
-    /// no memory.
+    /// The least line in the way, after one more was looked at. A line above one in the way isn't
+    /// tested: it is not the least.
+    fn pass_line(
+        &self,
+        least: Option<u64>,
+        front: &Front,
+        c: &Compiled<'_>,
+        mapped: &[u64],
+        line: u64,
+    ) -> Option<u64>
+        requires { is_some (line_at front.now.lines line) ≡ true }
+        ensures { IsLinePassed self.now (mapping front.now c.now mapped.now) line least result }
+    {
+        if is_at_most(&least, line) {
+            return least;
+        }
+        let _lines = front.lines();
+        let ends = front.line(line).unwrap();
+        let free = self.is_line_free(front, c, mapped, &ends);
+        counted(least, line, free)
+    }
+
+    /// The least line in the way of those with the numbers.
+    fn least_of(
+        &self,
+        front: &Front,
+        c: &Compiled<'_>,
+        mapped: &[u64],
+        numbers: &[u64],
+    ) -> Option<u64>
+        requires { All (λ n. is_some (line_at front.now.lines n) ≡ true) numbers.now }
+        ensures { AreLinesPassed self.now (mapping front.now c.now mapped.now)
+            numbers.now (length numbers.now) result }
+    {
+        let mut least = None;
+        for number in numbers {
+            least = self.pass_line(least, front, c, mapped, *number);
+        }
+        least
+    }
+
+    /// The least front line that is neither mapped nor apart from the zone, if there is one.
     ///
     /// Where a front point is in the way so is each line that ends there, so there is none exactly
-    /// where nothing is in the way.
-    pub fn line_in_way(&self, front: &Front, c: &Compiled<'_>, mapped: &[u64]) -> Option<u64>
-        ensures least { IfSome result
-            (IsLeast (IsLineInWay self.now (mapping front.now c.now mapped.now))) }
-        ensures none { IfNone result (HasNoLine self.now (mapping front.now c.now mapped.now)) }
+    /// where nothing is in the way. The lines whose boxes meet the zone's are listed by one walk, so
+    /// this is quicker than `blocked` where they are many.
+    ///
+    /// Errors: want of memory for that list.
+    pub fn line_in_way(
+        &self,
+        alloc: Global,
+        front: &Front,
+        c: &Compiled<'_>,
+        mapped: &[u64],
+    ) -> Result<Option<u64>, OutOfMemory>
+        ensures least { IfOk result (λ line. IfSome line
+            (IsLeast (IsLineInWay self.now (mapping front.now c.now mapped.now)))) }
+        ensures none { IfOk result (λ line. IfNone line
+            (HasNoLine self.now (mapping front.now c.now mapped.now))) }
     {
-        self.found(front, c, mapped).line
+        let _lines = front.lines();
+        let near = self.bounds();
+        let numbers = front.near_lines(alloc, &near)?;
+        Ok(self.least_of(front, c, mapped, &numbers))
     }
 }

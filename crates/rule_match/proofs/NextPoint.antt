@@ -3,12 +3,12 @@ use Prim.Native.Nat.{ℕ, zero, suc, ◌+◌, ◌<◌}
 use native.Mathlib.Omega.{arith}
 use mathlib.Core.Path.{◌≡◌, refl, sym, ap, ◌∙◌}
 use mathlib.Core.List.{List, [], ◌∷◌, ◌++◌}
-use Rattle.std.specs.Prelude.{Bool, true, false, ◌&&◌, Option, None, Some, slice_get, slice_index_or, length}
+use Rattle.std.specs.Prelude.{Bool, true, false, ◌&&◌, Option, None, Some, slice_get, slice_index_or, length, map}
 use Rattle.std.specs.Option.{option_map_or}
 use Rattle.std.specs.List.{list_all}
 use Rattle.rule_reader.specs.declared.rule.MapPoint.{MapPoint}
 use Rattle.rule_match.specs.Fitting.{Tie, both_known, is_met, are_different, fits_so_far}
-use Rattle.rule_match.specs.Trying.{Setting, point_test, point_tie, point_ties, other_ties, ties}
+use Rattle.rule_match.specs.Trying.{Setting, point_test, point_tie, point_ties, line_tie, turn_tie, other_ties, ties}
 use Rattle.rule_match.proofs.Prefixes.{both, pair}
 
 -- ---- the number at a position, with one more at the end
@@ -79,3 +79,25 @@ all_not b xs ys r h e = e ∙ sym (all_append b xs ys ∙ ap (λ (z : Bool). z &
 -- of a fit, the tests of single points
 pub points_of : (s : Setting) (b : List ℕ) → fits_so_far (ties s) b ≡ true → list_all (is_met b) (point_ties s 0 s.rule.points) ≡ true
 points_of s b h = (both (list_all (is_met b) (point_ties s 0 s.rule.points)) (list_all (is_met b) (other_ties s)) (sym (all_append b (point_ties s 0 s.rule.points) (other_ties s)) ∙ (both (are_different b) (list_all (is_met b) (ties s)) h).1)).0
+
+-- the others
+pub others_of : (s : Setting) (b : List ℕ) → fits_so_far (ties s) b ≡ true → list_all (is_met b) (other_ties s) ≡ true
+others_of s b h = (both (list_all (is_met b) (point_ties s 0 s.rule.points)) (list_all (is_met b) (other_ties s)) (sym (all_append b (point_ties s 0 s.rule.points) (other_ties s)) ∙ (both (are_different b) (list_all (is_met b) (ties s)) h).1)).1
+
+-- those of lines among them
+pub lines_of : (s : Setting) (b : List ℕ) → list_all (is_met b) (other_ties s) ≡ true → list_all (is_met b) (map (line_tie s) s.rule.lines) ≡ true
+lines_of s b h = (both (list_all (is_met b) (map (line_tie s) s.rule.lines)) (list_all (is_met b) (map (turn_tie s) s.rule.turns)) (sym (all_append b (map (line_tie s) s.rule.lines) (map (turn_tie s) s.rule.turns)) ∙ h)).0
+
+-- ---- a test whose two points were known before
+abbrev at_two : (List ℕ → Bool) → Option ℕ → Option ℕ → Bool
+at_two test o q = option_map_or test (both_known o (both_known q (Some []))) true
+
+pub two_before : (test : List ℕ → Bool) (b : List ℕ) (p i j : ℕ) → i < length b → j < length b → is_met b (record { at = i ∷ j ∷ []; test = test }) ≡ true → true ≡ is_met (b ++ p ∷ []) (record { at = i ∷ j ∷ []; test = test })
+two_before test b p i j h k m = sym (ap (λ (o : Option ℕ). at_two test o (slice_get (b ++ p ∷ []) j)) (get_old b p i h) ∙ (ap (λ (o : Option ℕ). at_two test (slice_get b i) o) (get_old b p j k) ∙ m))
+
+-- ---- the first test and the others
+pub first_met : (b : List ℕ) (x : Tie) (xs : List Tie) → list_all (is_met b) (x ∷ xs) ≡ true → is_met b x ≡ true
+first_met b x xs h = (both (is_met b x) (list_all (is_met b) xs) h).0
+
+pub others_met : (b : List ℕ) (x : Tie) (xs : List Tie) → list_all (is_met b) (x ∷ xs) ≡ true → list_all (is_met b) xs ≡ true
+others_met b x xs h = (both (is_met b x) (list_all (is_met b) xs) h).1

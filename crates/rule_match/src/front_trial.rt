@@ -167,6 +167,7 @@ impl<'a> FrontTrial<'a> {
     /// Whether no front line is in the way of the zone. Else the least that is is noted.
     fn has_free_zone(
         &self,
+        alloc: Global,
         zone: &Zone,
         numbers: &[u64],
         notes: &mut Vec<Note>,
@@ -178,7 +179,7 @@ impl<'a> FrontTrial<'a> {
         ensures in_way { IfOk result (λ yes. yes ≡ false →
             IsWayNoted self.now zone.now numbers.now notes.new.items) }
     {
-        match zone.line_in_way(self.front(), self.rule(), numbers) {
+        match zone.line_in_way(alloc, self.front(), self.rule(), numbers)? {
             None => Ok(true),
             Some(line) => {
                 note(self.base(), line, numbers, notes)?;
@@ -305,7 +306,7 @@ impl<'a> Trial for FrontTrial<'a> {
             return Ok(false);
         };
         let numbers = self.base().numbers(alloc, chosen);
-        if !self.has_free_zone(&zone, numbers.as_slice(), notes)? {
+        if !self.has_free_zone(alloc, &zone, numbers.as_slice(), notes)? {
             return Ok(false);
         }
         self.may_glue(alloc, chosen, numbers.as_slice(), made.as_slice(), notes)

@@ -208,14 +208,18 @@ impl<'a> Trying<'a> {
             && is_tolerated(self.class, &line.tol, &deviation)
     }
 
-    /// Whether the mapped line may be where its ends are, as far as they are known.
+    /// Whether the mapped line may be where its ends are, as far as they are known. Where they were
+    /// known before, it may.
+    #[tactic(auto, using(crate::proofs::NextPoint::two_before))]
     fn line_holds(&self, line: &MapLine, chosen: &[usize], p: usize) -> bool
+        requires { is_met chosen.now (line_tie self.now line.now) ≡ true }
         ensures { result ≡ is_met (chosen.now ++ p ∷ []) (line_tie self.now line.now) }
     {
-        match (
-            number_at(chosen, p, position(line.i)),
-            number_at(chosen, p, position(line.j)),
-        ) {
+        let (i, j) = (position(line.i), position(line.j));
+        if i < chosen.len() && j < chosen.len() {
+            return true;
+        }
+        match (number_at(chosen, p, i), number_at(chosen, p, j)) {
             (Some(a), Some(b)) => {
                 self.line_joins(line, &point_near(self.near, a), &point_near(self.near, b))
             }
@@ -269,7 +273,9 @@ impl<'a> Trying<'a> {
     }
 
     /// Whether all mapped lines may be where their ends are, as far as they are known.
+    #[tactic(auto, using(crate::proofs::NextPoint::first_met, crate::proofs::NextPoint::others_met))]
     fn lines_hold(&self, lines: &[MapLine], chosen: &[usize], p: usize) -> bool
+        requires { list_all (is_met chosen.now) (map (line_tie self.now) lines.now) ≡ true }
         ensures { result ≡
             list_all (is_met (chosen.now ++ p ∷ [])) (map (line_tie self.now) lines.now) }
     {
@@ -295,8 +301,9 @@ impl<'a> Trying<'a> {
     }
 
     /// Whether all mapped lines and all triples may be where their ends are, as far as they are known.
-    #[tactic(auto, using(crate::proofs::NextPoint::all_first, crate::proofs::NextPoint::all_not))]
+    #[tactic(auto, using(crate::proofs::NextPoint::all_first, crate::proofs::NextPoint::all_not, crate::proofs::NextPoint::lines_of))]
     fn lines_and_turns_hold(&self, chosen: &[usize], p: usize) -> bool
+        requires { list_all (is_met chosen.now) (other_ties self.now) ≡ true }
         ensures { result ≡ list_all (is_met (chosen.now ++ p ∷ [])) (other_ties self.now) }
     {
         self.lines_hold(self.rule.lines.as_slice(), chosen, p)
@@ -309,6 +316,7 @@ impl<'a> Trying<'a> {
         requires short { length chosen.now < length self.now.rule.points }
         requires fits { list_all (is_met chosen.now) (point_ties self.now 0 self.now.rule.points)
             ≡ true }
+        requires others { list_all (is_met chosen.now) (other_ties self.now) ≡ true }
         ensures { result ≡ list_all (is_met (chosen.now ++ p ∷ [])) (ties self.now) }
     {
         self.points_hold(chosen, p) && self.lines_and_turns_hold(chosen, p)
@@ -316,7 +324,7 @@ impl<'a> Trying<'a> {
 
     /// Whether p may be mapped after the chosen points: no point is mapped twice, and each test whose
     /// points are then known is met.
-    #[tactic(auto, using(crate::proofs::NextPoint::points_of))]
+    #[tactic(auto, using(crate::proofs::NextPoint::points_of, crate::proofs::NextPoint::others_of))]
     pub fn may_follow(&self, chosen: &[usize], p: usize) -> bool
         requires short { length chosen.now < length self.now.rule.points }
         requires fits { fits_so_far (ties self.now) chosen.now ≡ true }
