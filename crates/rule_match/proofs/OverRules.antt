@@ -439,9 +439,12 @@ refused_again sizes f rules line class fresh b p is noting none so_far = record 
       (subst (λ (g : FrontState). IsAllowed (state_of g) t) (sym is.front) a) (subst (λ (g : FrontState). FitsFront (state_of g) t) (sym is.front) h));
 }
 
--- the same where more was noted before
+-- where more was noted before
 pub again_after : (sizes : SizeField) (st : State) (rules : List Rule) (line class : ℕ) (fresh : List ℕ) (before notes : List Note) → IsRefusedAgain sizes st rules line class fresh notes → IsRefusedAgain sizes st rules line class fresh (before ++ notes)
 again_after sizes st rules line class fresh before notes r = record { excused = λ t of a h m. excused_after st before notes t (r.excused t of a h m) }
+
+pub refused_after : (sizes : SizeField) (st : State) (rules : List Rule) (line class : ℕ) (before notes : List Note) → IsRefusedBy sizes st rules line class notes → IsRefusedBy sizes st rules line class (before ++ notes)
+refused_after sizes st rules line class before notes r = record { excused = λ t of a h. excused_after st before notes t (r.excused t of a h) }
 
 pub none_again : (sizes : SizeField) (f : FrontState) (rules : List Rule) (line class : ℕ) (fresh : List ℕ) (notes : List Note) → IsRegion (edges_of f) → IsRefusedAgain sizes (state_of f) rules line class fresh notes → HasNoneAgain sizes (state_of f) rules line class fresh
 none_again sizes f rules line class fresh notes region r = record {

@@ -5,7 +5,7 @@
 //! 3. Rule after rule is passed: what is found is the least of the candidates by the rules so far, so a
 //!    find that comes after it is never judged.
 
-ghost use Rattle.std.specs.Prelude.{◌≡◌, ◌+◌, ◌-◌, ◌≤◌, length, true, false, IsSome, None, IfOk, IfSome, IfNone, OnOk};
+ghost use Rattle.std.specs.Prelude.{◌≡◌, ◌+◌, ◌-◌, ◌≤◌, length, true, false, IsSome, None, IfOk, IfSome, IfNone, OnOk, OnErr};
 ghost use Rattle.std.specs.List.{AllByRecursion};
 ghost use Rattle.state_law.specs.State.{IsListed, corners_of};
 ghost use Rattle.rule_maps.specs.Inert.{IsLive};
@@ -32,7 +32,6 @@ use list_of::List;
 use rule_maps::{Compiled, RuleSet};
 use size_field::Sizes;
 use std::alloc::{AllocError, Global};
-use std::mem;
 use std::sync::ledger::Ledger;
 use steps::Steps;
 
@@ -219,7 +218,7 @@ pub fn best<L: Ledger>(
 
 /// As `best`; and where there is no candidate the notes hold the reasons, so that the line is refused at
 /// the class until a front line that is noted leaves or a front point comes near. What is noted where
-/// something is found is of no use.
+/// something is found is of no use. After want of memory the notes are as before.
 ///
 /// Errors: want of memory.
 pub fn best_noted<L: Ledger>(
@@ -239,7 +238,8 @@ pub fn best_noted<L: Ledger>(
         IfSome found (IsBest sizes.now (state_of front.now) rules.now line class)) }
     ensures none { IfOk result (λ found.
         IfNone found (HasNone sizes.now (state_of front.now) rules.now line class)) }
-    ensures kept { OnOk result (BeginsWith notes.new.items notes.old.items) }
+    ensures kept { BeginsWith notes.new.items notes.old.items }
+    ensures unchanged { OnErr result (notes.new.items ≡ notes.old.items) }
     ensures noted { IfOk result (λ found. IfNone found
         (IsRefusedBy sizes.now (state_of front.now) rules.now line class notes.new.items)) }
     ensures counted { steps.new ≡ steps.old + 1 }
@@ -247,9 +247,9 @@ pub fn best_noted<L: Ledger>(
     steps.count();
     let mut progress = Progress {
         best: None,
-        notes: mem::replace(notes, Vec::new(alloc)),
+        notes: Vec::new(alloc),
     };
     let found = search_line(alloc, front, sizes, rules, line, class, true, &mut progress)?;
-    *notes = progress.notes;
+    notes.append(&mut progress.notes)?;
     Ok(found)
 }
