@@ -82,7 +82,8 @@ fn joined(alloc: Global, first: &[Point], second: &[Point]) -> FewPoints
 
 /// Whether elements weren't admitted for want of memory.
 fn is_memory(refusal: &GlueRefusal) -> bool
-    ensures { result ≡ false → (refusal.now ≡ NoMemory → ⊥) }
+    ensures memory { result ≡ true → refusal.now ≡ NoMemory }
+    ensures other { result ≡ false → (refusal.now ≡ NoMemory → ⊥) }
 {
     match refusal {
         GlueRefusal::Memory => true,

@@ -36,9 +36,9 @@ returns-in-Ok-clause-may c = (
 pub returns-clause-may : goal.returns-clause-may
 returns-clause-may c = refused_told (MayAllBeGlued (elements (state_of c.args.self.now.base.front) (attempt_of c.args.self.now c.args.chosen.now)) (front_edges c.args.self.now.base.front.points c.args.self.now.base.front.lines)) c.args.self.now.base.front c.front.result.now c.args.placed.now c.as_slice.result.now (elements_by c.args.self.now (numbers_at c.args.self.now.base.near c.args.chosen.now) c.args.placed.now) c.in-Err.refusal
     (ready_is c.args.self.now c.args.chosen.now c.args.placed.now c.front.ensures.trying c.requires.complete c.requires.fits c.requires.placed)
-    (c.is_memory.ensures c.if-is_memory.false) c.in-Err.ensures.refused c.front.ensures.value (c.as_slice.ensures.value ∙ c.in_ok-elements.ensures ∙ ap (λ (ns : List ℕ). elements_by c.args.self.now ns c.args.placed.now) c.requires.numbers)
+    (c.is_memory.ensures.other c.if-is_memory.false) c.in-Err.ensures.refused c.front.ensures.value (c.as_slice.ensures.value ∙ c.in_ok-elements.ensures ∙ ap (λ (ns : List ℕ). elements_by c.args.self.now ns c.args.placed.now) c.requires.numbers)
 
 pub returns-clause-excused : goal.returns-clause-excused
 returns-clause-excused c = λ no. refused_excused c.args.self.now c.front.ensures.trying c.args.chosen.now c.requires.complete c.requires.fits c.args.placed.now c.requires.placed c.base.result.now c.front.result.now c.as_slice.result.now c.args.numbers.now c.in-Err.refusal c.note_refusal.new.notes.items
     c.base.ensures.value c.front.ensures.value (c.as_slice.ensures.value ∙ c.in_ok-elements.ensures ∙ ap (λ (ns : List ℕ). elements_by c.args.self.now ns c.args.placed.now) c.requires.numbers) c.requires.numbers
-    c.in-Err.ensures.refused (c.is_memory.ensures c.if-is_memory.false) c.in_ok-note_refusal-in-Err.ensures.noted
+    c.in-Err.ensures.refused (c.is_memory.ensures.other c.if-is_memory.false) c.in_ok-note_refusal-in-Err.ensures.noted
