@@ -11,6 +11,13 @@ use Rattle.rule_match.specs.Fitting.{Tie, both_known, is_met, are_different, fit
 use Rattle.rule_match.specs.Trying.{Setting, point_test, point_tie, point_ties, line_tie, turn_tie, other_ties, ties}
 use Rattle.rule_match.proofs.Prefixes.{both, pair}
 
+-- two tests in either order
+pub swapped : (r s : Bool) → (r && s) ≡ (s && r)
+swapped true true = refl
+swapped true false = refl
+swapped false true = refl
+swapped false false = refl
+
 -- ---- the number at a position, with one more at the end
 get_old : (b : List ℕ) (p k : ℕ) → k < length b → slice_get (b ++ p ∷ []) k ≡ slice_get b k
 get_old [] p k h = absurd (omega (arith, h))

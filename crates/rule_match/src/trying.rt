@@ -190,11 +190,16 @@ impl<'a> Trying<'a> {
             return false;
         }
         let near = point_near(self.near, n);
+        if !self.is_end_right(position, near.number) {
+            return false;
+        }
         let deviation = way(&place_of(point), &local_of(&near));
-        self.is_end_right(position, near.number) && is_tolerated(self.class, &point.tol, &deviation)
+        is_tolerated(self.class, &point.tol, &deviation)
     }
 
-    /// Whether the two near points may be at the ends of the mapped line.
+    /// Whether the two near points may be at the ends of the mapped line. The tolerance comes first: it
+    /// costs less than a look at the front lines.
+    #[tactic(auto, using(crate::proofs::NextPoint::swapped))]
     fn line_joins(&self, line: &MapLine, a: &NearPoint, b: &NearPoint) -> bool
         ensures { result ≡ line_test self.now line.now a.now b.now }
     {
@@ -204,8 +209,8 @@ impl<'a> Trying<'a> {
             &place_in_rule(points, line.j),
         );
         let deviation = way(&wanted, &way(&local_of(a), &local_of(b)));
-        is_front_line(self.lines, a.number, b.number)
-            && is_tolerated(self.class, &line.tol, &deviation)
+        is_tolerated(self.class, &line.tol, &deviation)
+            && is_front_line(self.lines, a.number, b.number)
     }
 
     /// Whether the mapped line may be where its ends are, as far as they are known. Where they were
