@@ -11,8 +11,6 @@ pub mod Near
 pub mod Walking
 -- Told: what is told at the end.
 pub mod Told
--- Worked: the fronts of the tests.
-pub mod Worked
 -- OneAnswer: an answer is the only one.
 pub mod OneAnswer
 -- Listed: the near lines looked at one by one, and the least in the way at the end.

@@ -21,6 +21,3 @@ mod zone;
 
 pub use blocked::Blocker;
 pub use zone::Zone;
-
-#[cfg(test)]
-mod tests;

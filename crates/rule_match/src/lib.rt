@@ -34,8 +34,6 @@ mod progress;
 mod refused;
 mod rule_search;
 mod squares;
-#[cfg(test)]
-mod tests;
 mod tolerance;
 mod trying;
 mod walk;

@@ -20,6 +20,7 @@ use Rattle.state_law.specs.State.{IsNumbered, pair_edge}
 use Rattle.state_law.specs.Worked.{place}
 use Rattle.state_law.proofs.OnePolygon.{polygon_kept}
 use Rattle.state_law.proofs.Region.{region_of}
+use Rattle.front_chain.proofs.Ring.{convex_four}
 use Rattle.front_chain.specs.Front.{IsOpening, numbered_from, or_zero}
 
 -- ---- places
@@ -40,27 +41,7 @@ turned : pos 0 <ℤ pos 409600000000
 turned = omega (arith, ints)
 
 square_convex : IsStrictlyConvex square
-square_convex = record { enough = omega arith; left = corner }
-  where
-    corner : (i : ℕ) → i < 4 → (j : ℕ) → j < 4 → j ≢ i → j ≢ after square i → pos 0 <ℤ orient (corner_at square i) (corner_at square (after square i)) (corner_at square j)
-    corner zero hi zero hj n m = absurd (n refl)
-    corner zero hi (suc zero) hj n m = absurd (m refl)
-    corner zero hi (suc (suc zero)) hj n m = turned
-    corner zero hi (suc (suc (suc zero))) hj n m = turned
-    corner (suc zero) hi zero hj n m = turned
-    corner (suc zero) hi (suc zero) hj n m = absurd (n refl)
-    corner (suc zero) hi (suc (suc zero)) hj n m = absurd (m refl)
-    corner (suc zero) hi (suc (suc (suc zero))) hj n m = turned
-    corner (suc (suc zero)) hi zero hj n m = turned
-    corner (suc (suc zero)) hi (suc zero) hj n m = turned
-    corner (suc (suc zero)) hi (suc (suc zero)) hj n m = absurd (n refl)
-    corner (suc (suc zero)) hi (suc (suc (suc zero))) hj n m = absurd (m refl)
-    corner (suc (suc (suc zero))) hi zero hj n m = absurd (m refl)
-    corner (suc (suc (suc zero))) hi (suc zero) hj n m = turned
-    corner (suc (suc (suc zero))) hi (suc (suc zero)) hj n m = turned
-    corner (suc (suc (suc zero))) hi (suc (suc (suc zero))) hj n m = absurd (n refl)
-    corner i hi (suc (suc (suc (suc j)))) hj n m = absurd (omega (arith, hj))
-    corner (suc (suc (suc (suc i)))) hi j hj n m = absurd (omega (arith, hi))
+square_convex = convex_four (place 0 0) (place 640000 0) (place 640000 640000) (place 0 640000) turned turned turned turned turned turned turned turned
 
 square_numbered : IsNumbered (record { points = square; front = numbered_from 1 square_lines; next = 5; elements = [] })
 unfolding IsDistinct

@@ -1,15 +1,15 @@
-//! Worked by hand: the zone of one rule on the line from (0, 0) to (640000, 0), and three fronts on that line.
+// Worked by hand: the zone of one rule on the line from (0, 0) to (640000, 0), and three fronts on that line.
 
-ghost use Rattle.std.specs.Prelude.{◌≤◌, ◌↔◌, length, IfOk, IsTrue};
+ghost use Rattle.std.specs.Prelude.{◌↔◌, IsTrue};
 ghost use Rattle.std.specs.List.{All};
 ghost use Rattle.rule_maps.specs.Frame.{IsInRange};
-ghost use Rattle.rule_reader.specs.Normal.{CanPrint};
 
-use super::*;
-use front_chain::{Front, OutOfMemory};
+use crate::fronts::{high, low, square};
+use crate::reading::read;
+use free_zone::{Blocker, Zone};
+use front_chain::Front;
 use grid_geom::Point;
 use rule_maps::{Compiled, Frame, RuleSet};
-use rule_reader::{Rules, read_rules};
 use std::alloc::Global;
 use std::test::Fail;
 
@@ -29,16 +29,6 @@ endrule
 
 /// The ends of the line.
 const ENDS: [Point; 2] = [Point { x: 0, y: 0 }, Point { x: 640_000, y: 0 }];
-
-/// The rule of the text.
-fn read(alloc: Global) -> Result<Rules, Fail>
-    ensures { IfOk result CanPrint }
-{
-    match read_rules(alloc, RULE) {
-        Ok(rules) => Ok(rules),
-        Err(_) => Err("the text is admitted".into()),
-    }
-}
 
 /// Whether all points are in range.
 fn all_in_range(f: &Frame, points: &[Point]) -> bool
@@ -64,62 +54,13 @@ fn zone(alloc: Global, rule: &Compiled<'_>) -> Result<Zone, Fail> {
 
 /// What is in the way of the rule on the first line of a front.
 fn answer(alloc: Global, front: &Front) -> Result<Option<Blocker>, Fail> {
-    let rules = read(alloc)?;
+    let rules = read(alloc, RULE)?;
     let set = RuleSet::new(alloc, &rules)?;
     if set.count() != 1 {
         return Err("there is one rule".into());
     }
     let zone = zone(alloc, set.get(1))?;
     Ok(zone.blocked(front, set.get(1), &[1, 2]))
-}
-
-/// The front of a square.
-fn square(alloc: Global) -> Result<Front, OutOfMemory> {
-    Front::open(
-        alloc,
-        &[
-            Point { x: 0, y: 0 },
-            Point { x: 640_000, y: 0 },
-            Point {
-                x: 640_000,
-                y: 640_000,
-            },
-            Point { x: 0, y: 640_000 },
-        ],
-        &[(1, 2), (2, 3), (3, 4), (4, 1)],
-    )
-}
-
-/// The front of a triangle whose third corner is in the zone.
-fn low(alloc: Global) -> Result<Front, OutOfMemory> {
-    Front::open(
-        alloc,
-        &[
-            Point { x: 0, y: 0 },
-            Point { x: 640_000, y: 0 },
-            Point {
-                x: 320_000,
-                y: 300_000,
-            },
-        ],
-        &[(1, 2), (2, 3), (3, 1)],
-    )
-}
-
-/// The front of a triangle that has room for the zone.
-fn high(alloc: Global) -> Result<Front, OutOfMemory> {
-    Front::open(
-        alloc,
-        &[
-            Point { x: 0, y: 0 },
-            Point { x: 640_000, y: 0 },
-            Point {
-                x: 320_000,
-                y: 900_000,
-            },
-        ],
-        &[(1, 2), (2, 3), (3, 1)],
-    )
 }
 
 #[test]

@@ -1,13 +1,11 @@
-//! Worked by hand: the triangle (0, 0), (640000, 0), (0, 640000) with two rules that make it one element.
+// Worked by hand: the triangle (0, 0), (640000, 0), (0, 640000) with two rules that make it one element.
 
-ghost use Rattle.std.specs.Prelude.{◌≡◌, ◌≤◌, ◌<◌, length, IfOk};
-ghost use Rattle.rule_reader.specs.Normal.{CanPrint};
+ghost use Rattle.std.specs.Prelude.{◌≡◌, ◌≤◌, ◌<◌, length};
 
-use super::*;
-use front_chain::Front;
-use grid_geom::Point;
+use crate::fronts::triangle;
+use crate::reading::read;
 use rule_maps::RuleSet;
-use rule_reader::{Rules, read_rules};
+use rule_match::{Application, best, greatest_reach_at};
 use size_field::Sizes;
 use std::alloc::Global;
 use std::marker::Brand;
@@ -31,30 +29,6 @@ freearea (0, 0); (1, 0) { 1 X2 } { }; (0.5, 0.866) { 1 X3 } { 1 Y3 };
 elements (1, 2, 3);
 endrule
 ";
-
-/// The rules of a text.
-fn read(alloc: Global, text: &[u8]) -> Result<Rules, Fail>
-    requires { length text.now ≤ 1048576 }
-    ensures { IfOk result CanPrint }
-{
-    match read_rules(alloc, text) {
-        Ok(rules) => Ok(rules),
-        Err(_) => Err("the text is admitted".into()),
-    }
-}
-
-/// The front of the triangle.
-fn triangle(alloc: Global) -> Result<Front, OutOfMemory> {
-    Front::open(
-        alloc,
-        &[
-            Point { x: 0, y: 0 },
-            Point { x: 640_000, y: 0 },
-            Point { x: 0, y: 640_000 },
-        ],
-        &[(1, 2), (2, 3), (3, 1)],
-    )
-}
 
 /// What is found on the triangle's first line at a class of 1 or 2, by the rules of a text.
 fn found<L: Ledger>(

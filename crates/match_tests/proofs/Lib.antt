@@ -1,0 +1,2 @@
+-- Openings: the fronts of the tests are openings.
+pub mod Openings

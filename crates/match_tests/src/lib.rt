@@ -1,0 +1,14 @@
+//! Is what is said of a rule's ground, and of the least candidate of a line, what was meant?
+//!
+//! Tests alone. They stand apart from the crates that they try, since a crate that has tests is proved
+//! a second time with them.
+#![tactic(auto)]
+
+#[cfg(test)]
+mod fronts;
+#[cfg(test)]
+mod least;
+#[cfg(test)]
+mod reading;
+#[cfg(test)]
+mod zones;
