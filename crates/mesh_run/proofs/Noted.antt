@@ -55,35 +55,20 @@ still_kept s st m after least reaches stay own h = record {
 -- where rules reach as far up to the class as up to the class before, a region at that class is one at the class
 pub region_on : (m : Refusals) (sizes : SizeField) (points : List Point) (line : ℕ × ℕ × ℕ) (class : ℕ) → class < length m.reaches.items → slice_index_or m.reaches.items (class - 1) 0 ≡ slice_index_or m.reaches.items class 0
     → HasRegion m sizes points line (class - 1) → HasRegion m sizes points line class
-region_on m sizes points line class tried same h = by (compared h.region.last class h.region.no_less)
+region_on m sizes points line class tried same h = record {
+  entry = h.entry;
+  there = h.there;
+  region = record {
+    of_line = h.region.of_line;
+    from = from h.entry.value.class class h.region.from;
+    tried = tried;
+    same = sym same ∙ h.region.same;
+    holds = subst (λ (n : ℕ). IsReachBox sizes points n line.1 line.2 h.entry.bounds) same h.region.holds;
+  };
+}
   where
-    compared : (last class : ℕ) → class - 1 ≤ last → (class ≤ last) ⊎ (last ≡ class - 1)
-    compared last class l = grind arith
-
-    level : (n : ℕ) → n ≤ n
-    level n = omega arith
-
     from : (first class : ℕ) → first ≤ class - 1 → first ≤ class
     from first class l = omega arith
-
-    by : (class ≤ h.region.last) ⊎ (h.region.last ≡ class - 1) → HasRegion m sizes points line class
-    by (inl l) = record {
-      entry = h.entry;
-      there = h.there;
-      region = record { of_line = h.region.of_line; from = from h.entry.value.class class h.region.from; last = h.region.last; no_less = l; tried = h.region.tried; holds = h.region.holds };
-    }
-    by (inr e) = record {
-      entry = h.entry;
-      there = h.there;
-      region = record {
-        of_line = h.region.of_line;
-        from = from h.entry.value.class class h.region.from;
-        last = class;
-        no_less = level class;
-        tried = tried;
-        holds = subst (λ (n : ℕ). IsReachBox sizes points n line.1 line.2 h.entry.bounds) (ap (λ (k : ℕ). slice_index_or m.reaches.items k 0) e ∙ same) h.region.holds;
-      };
-    }
 
 -- and an entry that is put in is one
 pub new_region : (m after : Refusals) (sizes : SizeField) (points : List Point) (line : ℕ × ℕ × ℕ) (class : ℕ) (box : Bounds) (k : Key) → after.reaches.items ≡ m.reaches.items → class < length m.reaches.items
@@ -92,7 +77,7 @@ new_region m after sizes points line class box k reaches tried i holds = record 
   entry = record { key = k; bounds = box; value = record { line = line.0; class = class } };
   there = put_in i;
   region = subst (λ (ns : List ℕ). IsRegion ns sizes points line class (record { key = k; bounds = box; value = record { line = line.0; class = class } })) (sym reaches)
-      (record { of_line = refl; from = level class; last = class; no_less = level class; tried = tried; holds = holds });
+      (record { of_line = refl; from = level class; tried = tried; same = refl; holds = holds });
 }
   where
     level : (n : ℕ) → n ≤ n

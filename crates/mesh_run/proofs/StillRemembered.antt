@@ -156,10 +156,10 @@ module _ (s : RunSetting) (b : List Edge) (st : State) (a : Application) (before
       by (inr k) = record { entry = has.entry; region = has.region; missed = k.0; there = k.1 }
 
   -- so an old line has no candidate where it had none
-  far_none : (n last line class : ℕ) → 1 ≤ class → class ≤ last → AllByRecursion (IsCoveredAt last n) s.rules → IsFarLine s.sizes st n f.area.lo f.area.hi line → HasNone s.sizes st s.rules line class → HasNone s.sizes (applied st a) s.rules line class
-  far_none n last line class first no_later covered far none =
+  far_none : (n line class : ℕ) → 1 ≤ class → AllByRecursion (IsCoveredAt class n) s.rules → IsFarLine s.sizes st n f.area.lo f.area.hi line → HasNone s.sizes st s.rules line class → HasNone s.sizes (applied st a) s.rules line class
+  far_none n line class first covered far none =
       subst (λ (k : ℕ). HasNone s.sizes (applied st a) s.rules k class) far.numbered
-      (still_none s.sizes s.rules n last class b st a far.line far.frame first no_later covered r m
+      (still_none s.sizes s.rules n class class b st a far.line far.frame first (level class) covered r m
       (record { on_front = far.on_front; same = λ other c e. stays_same st a far.line other rising far.on_front c e; frame = far.is_frame; framed = far.framed })
       (record {
         least = f.area.lo;
@@ -169,11 +169,14 @@ module _ (s : RunSetting) (b : List Edge) (st : State) (a : Application) (before
         elements = boxed f.area (st.points ++ a.made) a.elements (recursion_from_All (Holds f.area (st.points ++ a.made)) a.elements f.holds);
       })
       (subst (λ (k : ℕ). HasNone s.sizes st s.rules k class) (sym far.numbered) none))
+    where
+      level : (n : ℕ) → n ≤ n
+      level n = omega arith
 
   old_none : (line : Triple) (class : ℕ) → Contains st.front line → 1 ≤ class → class < slice_index_or after.least.items line.0 0 → HasNone s.sizes st s.rules line.0 class → HasNone s.sizes (applied st a) s.rules line.0 class
   old_none line class c first l =
-      let k = missed line class c first l in let n = slice_index_or before.reaches.items k.region.last 0 in
-      far_none n k.region.last line.0 class first k.region.no_less (h.covers.covers k.region.last k.region.tried)
+      let k = missed line class c first l in let n = slice_index_or before.reaches.items class 0 in
+      far_none n line.0 class first (h.covers.covers class k.region.tried)
       (far_by_box s.sizes st n line k.entry.bounds f.area c k.region.holds f.on_grid (missed_apart f.area k.entry k.missed))
 
   none_after : (line class : ℕ) → 1 ≤ class → class < slice_index_or after.least.items line 0 → HasNone s.sizes (applied st a) s.rules line class
@@ -203,10 +206,9 @@ module _ (s : RunSetting) (b : List Edge) (st : State) (a : Application) (before
             region = subst (λ (ns : List ℕ). IsRegion ns s.sizes (applied st a).points line class i.entry) (sym f.reaches) (record {
               of_line = i.region.of_line;
               from = i.region.from;
-              last = i.region.last;
-              no_less = i.region.no_less;
               tried = i.region.tried;
-              holds = moved_box s.sizes st.points (applied st a).points (slice_index_or before.reaches.items i.region.last 0) line.1 line.2 i.entry.bounds places.0 places.1 i.region.holds;
+              same = i.region.same;
+              holds = moved_box s.sizes st.points (applied st a).points (slice_index_or before.reaches.items class 0) line.1 line.2 i.entry.bounds places.0 places.1 i.region.holds;
             });
           }
       by (inr k) = absurd (clash line.0 st.next (was_given line.0 (some class (slice_index_or after.least.items line.0 0) l)) k)

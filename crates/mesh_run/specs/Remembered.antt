@@ -55,15 +55,14 @@ pub record AreCovering (rules : List Rule) (reaches : List ℕ) : Type 0 where
   pub covers : (class : ℕ) → class < length reaches
       → AllByRecursion (IsCoveredAt class (slice_index_or reaches class 0)) rules
 
--- the entry is of the line, from a class on that is no greater, and its box holds all that is
--- looked at on the line at the class, or at one no less
+-- the entry is of the line, from a class on that is no greater but has the same reach, and its box
+-- holds all that is looked at on the line at the class
 pub record IsRegion (reaches : List ℕ) (sizes : SizeField) (points : List Point) (line : ℕ × ℕ × ℕ) (class : ℕ) (e : Entry Region) : Type 0 where
   pub of_line : e.value.line ≡ line.0
   pub from : e.value.class ≤ class
-  pub last : ℕ
-  pub no_less : class ≤ last
-  pub tried : last < length reaches
-  pub holds : IsReachBox sizes points (slice_index_or reaches last 0) line.1 line.2 e.bounds
+  pub tried : class < length reaches
+  pub same : slice_index_or reaches class 0 ≡ slice_index_or reaches e.value.class 0
+  pub holds : IsReachBox sizes points (slice_index_or reaches class 0) line.1 line.2 e.bounds
 
 -- one of the entries is the line's region at the class
 pub record HasRegion (m : Refusals) (sizes : SizeField) (points : List Point) (line : ℕ × ℕ × ℕ) (class : ℕ) : Type 0 where
