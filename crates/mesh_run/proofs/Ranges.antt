@@ -1,7 +1,7 @@
 -- What a run's parts name is there.
 use Rattle.std.proofs.Common.{ℕ, ◌+◌, ◌≤◌, List, [], ◌∷◌, length, arith}
 use Rattle.std.specs.List.{All}
-use Rattle.std.proofs.lemmas.List.Elements.{All-nil, All-cons, All-map}
+use Rattle.std.proofs.lemmas.List.Elements.{All-nil, All-cons}
 use Rattle.grid_geom.specs.declared.Point.{Point}
 use Rattle.geom_check.specs.declared.kinds.Segment.{Segment}
 use Rattle.geom_check.specs.Boundary.{point_at}
@@ -9,8 +9,6 @@ use Rattle.size_field.specs.declared.pieces.Piece.{Piece}
 use Rattle.mesh_run.specs.Boundary.{IsPieceOf, whole_pieces, whole_pieces_from}
 use Rattle.mesh_run.specs.Mesh.{NamesItsPoints}
 use Rattle.mesh_run.specs.Opening.{unmeshed_run}
-use Rattle.geom_check.specs.Domains.{domain_numbers}
-use Rattle.mesh_run.specs.Whole.{unmeshed_runs}
 
 whole_within : (n : ℕ) (points : List Point) (all segments : List Segment) → 1 ≤ n → n + length segments ≤ length all + 1
     → All (IsPieceOf all) (whole_pieces_from n points segments)
@@ -31,8 +29,3 @@ all_of P each (x ∷ xs) = All-cons P x xs (each x) (all_of P each xs)
 -- a run without an application names its points
 pub unmeshed_names : (segments : List Segment) (pieces : List Piece) (d : ℕ) → NamesItsPoints (unmeshed_run d segments pieces)
 unmeshed_names segments pieces d = record { opened = omega arith; corners = All-nil _ }
-
-pub unmeshed_runs_name : (segments : List Segment) (pieces : List Piece) → All NamesItsPoints (unmeshed_runs segments pieces)
-unmeshed_runs_name segments pieces =
-    All-map NamesItsPoints (λ d. unmeshed_run d segments pieces) (domain_numbers segments)
-    (all_of (λ d. NamesItsPoints (unmeshed_run d segments pieces)) (unmeshed_names segments pieces) (domain_numbers segments))

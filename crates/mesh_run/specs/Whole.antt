@@ -1,16 +1,12 @@
 -- The run of all domains.
-use Rattle.std.specs.Prelude.{ℤ, Bool, true, false, List, map, if◌then◌else◌}
+use Rattle.std.specs.Prelude.{Bool, true, false, List, map, if◌then◌else◌}
 use Rattle.std.specs.List.{list_any}
 use Rattle.geom_check.specs.declared.kinds.Segment.{Segment}
 use Rattle.geom_check.specs.Domains.{domain_numbers}
 use Rattle.size_field.specs.declared.pieces.Piece.{Piece}
 use Rattle.mesh_run.specs.declared.End.{End}
 use Rattle.mesh_run.specs.declared.End.TheVariants.{Done, Stuck, Stopped}
-use Rattle.mesh_run.specs.declared.Options.{Options}
-use Rattle.mesh_run.specs.declared.WholeRun.{WholeRun}
 use Rattle.mesh_run.specs.declared.domain_run.DomainRun.{DomainRun}
-use Rattle.geom_check.specs.Geometry.{PlanarMap}
-use Rattle.size_field.specs.Cutting.{pieces_of}
 use Rattle.mesh_run.specs.Opening.{unmeshed_run}
 
 abbrev pub is_stopped : End → Bool
@@ -30,18 +26,3 @@ end_of_all runs =
 -- the runs of the domains that the segments name, where no rule applies
 abbrev pub unmeshed_runs : List Segment → List Piece → List DomainRun
 unmeshed_runs segments pieces = map (λ d. unmeshed_run d segments pieces) (domain_numbers segments)
-
--- the whole run, where no rule applies
-abbrev pub unmeshed_whole : ℤ → Options → List Piece → List Segment → WholeRun
-unmeshed_whole shift options pieces segments = record {
-  shift = shift;
-  options = options;
-  pieces = pieces;
-  domains = unmeshed_runs segments pieces;
-  end = end_of_all (unmeshed_runs segments pieces);
-}
-
--- the whole run of an accepted geometry where no rule applies: its segments are cut by the options' sizes and its own
-abbrev pub unmeshed_geometry : PlanarMap → Options → WholeRun
-unmeshed_geometry g options = unmeshed_whole g.shift options
-    (pieces_of g options.greatest options.grading) g.segments

@@ -48,7 +48,6 @@ pub use run::Run;
 pub use size_field::{Piece, Pieces};
 pub use std::alloc::AllocError as OutOfMemory;
 pub use stepped::Stepped;
-pub use whole::{open_all, open_geometry};
 
 /// The options of a run.
 #[derive(Clone, Copy, Debug, PartialEq, Eq)]
@@ -88,6 +87,3 @@ pub struct WholeRun {
     /// Stopped if a domain's end is, else Stuck if one is, else Done.
     pub end: End,
 }
-
-#[cfg(test)]
-mod tests;

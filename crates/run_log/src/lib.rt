@@ -10,8 +10,6 @@ mod end_word;
 pub mod laws;
 mod lists;
 mod log;
-#[cfg(test)]
-mod log_tests;
 mod reader;
 mod reading;
 mod refusal;
@@ -20,8 +18,6 @@ mod runs;
 mod state;
 mod summary;
 mod table;
-#[cfg(test)]
-mod tests;
 mod viewing;
 mod words;
 mod write;

@@ -21,8 +21,6 @@ use std::alloc::Global;
 use std::thread::Threads;
 
 pub mod laws;
-#[cfg(test)]
-mod tests;
 
 /// A whole run: its summary line, and how it ended.
 #[derive(Debug, Drop)]

@@ -1,7 +1,7 @@
 //! The smallest run.
 
-use super::mesh_squares;
 use mesh_run::{End, NoGate};
+use sample_run::mesh_squares;
 use std::test::Fail;
 
 #[test]

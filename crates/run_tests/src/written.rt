@@ -1,9 +1,11 @@
-use super::*;
+// The log and the summary line of a run, byte for byte.
+
 use grid_geom::{Element, Point, Points};
 use mesh_run::{
     Application, Applications, DomainRun, DomainRuns, Elements, End, FrontRows, OpeningLines,
     Options, Pieces, PointNumbers, WholeRun,
 };
+use run_log::{write_log, write_summary};
 use std::alloc::{AllocError, Global};
 use std::test::Fail;
 use vol_format::{EdgeRows, Mesh, MeshElements};

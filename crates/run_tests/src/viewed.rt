@@ -1,6 +1,6 @@
 // A log is read and each of its states is viewed, and of any other text the word at fault is named.
 
-use crate::{LogRefusal, View, read_log, view};
+use run_log::{LogRefusal, View, read_log, view};
 use std::test::*;
 
 const LOG: &[u8] =
