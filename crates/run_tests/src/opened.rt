@@ -1,9 +1,11 @@
-//! Unit squares by rules of which none is live: each domain's run is its opening, and its mesh has no
-//! elements.
+//! Unit squares without rules: each domain's run is its opening.
+
+ghost use Rattle.std.specs.Prelude.{IfOk};
+ghost use Rattle.rule_reader.specs.Normal.{CanPrint};
 
 use geom_check::Geometry;
 use grid_geom::Point;
-use mesh_run::{DomainRun, End, NoGate, Options, WholeRun, mesh_of, run_all};
+use mesh_run::{DomainRun, End, NoGate, Options, WholeRun, run_all};
 use rule_maps::RuleSet;
 use rule_reader::{Rules, read_rules};
 use sample::geometry;
@@ -19,12 +21,13 @@ const OPTIONS: Options = Options {
 };
 
 /// No rules at all.
-fn no_rules(alloc: Global) -> Result<Rules, Fail> {
-    Ok(
-        read_rules(alloc, b"")
-            .ok()
-            .ok_or("a text without rules is read")?,
-    )
+fn no_rules(alloc: Global) -> Result<Rules, Fail>
+    ensures { IfOk result CanPrint }
+{
+    match read_rules(alloc, b"") {
+        Ok(rules) => Ok(rules),
+        Err(_) => Err("a text without rules is read".into()),
+    }
 }
 
 /// One unit square, or four.
@@ -75,24 +78,6 @@ fn opens_a_square(rt: HostRuntime) -> Result<(), Fail> {
         y: 640_000,
     };
     assert!(rt; is_opening(domain) && is_square(domain, Point { x: 0, y: 0 }, hi));
-    Ok(())
-}
-
-#[test]
-fn the_mesh_of_an_opening(rt: HostRuntime) -> Result<(), Fail> {
-    let squares = unit_squares(rt.alloc(), false)?;
-    let run = opened(&rt, rt.alloc(), &squares)?;
-    let mesh = mesh_of(rt.alloc(), &run, squares.segments())?;
-    assert_eq!(rt; mesh.shift, 4);
-    assert_eq!(rt; mesh.points.as_slice().len(), 4);
-    assert!(rt; mesh.elements.as_slice().is_empty());
-    let [south, north, west, east] = mesh.edges.as_slice() else {
-        return Err("each segment is a row".into());
-    };
-    assert_eq!(rt; (south.a, south.b, south.left, south.right), (1, 2, 1, 0));
-    assert_eq!(rt; (north.a, north.b, north.left, north.right), (3, 4, 0, 1));
-    assert_eq!(rt; (west.a, west.b, west.left, west.right), (1, 3, 0, 1));
-    assert_eq!(rt; (east.a, east.b, east.left, east.right), (2, 4, 1, 0));
     Ok(())
 }
 
