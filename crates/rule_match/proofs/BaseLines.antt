@@ -15,6 +15,7 @@ use Rattle.state_law.specs.State.{State, point_at, pair_edge, front_edges, IsLis
 use Rattle.size_field.specs.Size.{SizeField, size_at}
 use Rattle.front_chain.specs.Front.{FrontState, IsFrontState, state_of, line_at}
 use Rattle.free_zone.proofs.AtNumbers.{at_number}
+use Rattle.rule_match.specs.declared.around.Scope.{Scope}
 use Rattle.rule_match.specs.declared.near.NearPoint.{NearPoint}
 use Rattle.rule_match.specs.Candidate.{IsFrontPair}
 use Rattle.rule_match.specs.Trying.{nowhere}
@@ -46,8 +47,8 @@ framed sizes points from to a b m size f e g h x y k =
         at u v = record { x = u; y = v }
 
 -- near points are grid points
-pub near_on : (st : State) (f : LocalFrame) (near : List NearPoint) (lines : List (ℕ × ℕ)) → IsSurrounding st f near lines → All (λ n. IsOnGrid n.at) near
-near_on st f near lines s = All-from_get_or (λ n. IsOnGrid n.at) near nowhere (λ k h. (s.in_range k h).on)
+pub near_on : (st : State) (f : LocalFrame) (scope : Scope) (near : List NearPoint) (lines : List (ℕ × ℕ)) → IsSurrounding st f scope near lines → All (λ n. IsOnGrid n.at) near
+near_on st f scope near lines s = All-from_get_or (λ n. IsOnGrid n.at) near nowhere (λ k h. (s.in_range k h).on)
 
 -- a line with its number is of the list
 pub line_there : (lines : List (ℕ × ℕ × ℕ)) (n : ℕ) (ends : ℕ × ℕ) → line_at lines n ≡ Some ends → Contains lines (n, ends.0, ends.1)

@@ -1,6 +1,6 @@
 -- How an assignment that a walk finds goes on from the chosen numbers: with none left it is the chosen ones; what goes on from one number more goes
 -- on from a region that holds it; and with nothing chosen its numbers are of the regions.
-use Prim.Native.Nat.{ℕ, zero, suc, ◌+◌, ◌<◌, ◌≤◌}
+use Prim.Native.Nat.{ℕ, zero, suc, ◌<◌, ◌≤◌}
 use native.Mathlib.Omega.{arith}
 use mathlib.Core.Path.{◌≡◌, refl, sym, subst, ap, ◌∙◌}
 use mathlib.Core.List.{List, [], ◌∷◌, ◌++◌}

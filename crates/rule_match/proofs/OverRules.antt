@@ -1,5 +1,5 @@
 -- The search over the rules: each candidate of a line stands as an assignment that its rule's search passes, and what is found over all rules is the least.
-use Rattle.std.proofs.Common.{◌≡◌, ℕ, suc, ◌+◌, ◌-◌, ◌<◌, ◌≤◌, true, false, List, [], ◌∷◌, length, slice_index_or, Option, None, Some, refl, sym, ap, ◌∙◌, subst, arith, inl, inr, ◌⊎◌}
+use Rattle.std.proofs.Common.{◌≡◌, ℕ, zero, suc, ◌+◌, ◌-◌, ◌<◌, ◌≤◌, true, false, List, [], ◌∷◌, length, slice_index_or, Option, None, Some, refl, sym, ap, ◌∙◌, subst, arith, inl, inr, ◌⊎◌}
 use Rattle.std.specs.Prelude.{slice_get}
 use Rattle.std.specs.List.{AllByRecursion, Contains}
 use mathlib.Core.Bool.{true≢false}
@@ -15,20 +15,21 @@ use Rattle.size_field.specs.Size.{SizeField, size_at}
 use Rattle.state_law.specs.State.{State, point_at, AreRising}
 use Rattle.front_chain.specs.Front.{FrontState, edges_of, line_at, state_of}
 use Rattle.rule_match.specs.declared.found.Found.{Found}
+use Rattle.rule_match.specs.declared.around.Scope.{Scope}
 use Rattle.rule_match.specs.declared.near.NearPoint.{NearPoint}
 use Rattle.rule_match.specs.declared.progress.Progress.{Progress}
 use Rattle.rule_match.specs.declared.application.Application.{Application}
 use Rattle.rule_match.specs.Applied.{application}
 use Rattle.rule_match.specs.Best.{IsBest}
 use Rattle.rule_match.specs.Order.{IsNoWorse}
-use Rattle.rule_match.specs.Candidate.{Attempt, IsCandidate}
+use Rattle.rule_match.specs.Candidate.{Attempt, IsCandidate, nth}
 use Rattle.rule_match.specs.Least.{IsOf, IsLeast, HasNone, rank}
 use Rattle.rule_match.specs.Fitting.{fits_so_far}
 use Rattle.rule_match.specs.Trying.{near_at, ties}
-use Rattle.rule_match.specs.Around.{StandFor}
+use Rattle.rule_match.specs.Around.{AreLookedAt, is_in, StandFor}
 use Rattle.rule_match.specs.Base.{BaseLine, IsBaseLine, IsBaseOf, Tried, attempt_of, numbers_at, setting_at}
 use Rattle.rule_match.specs.Idle.{NoneApplies, SomeMayApply}
-use Rattle.rule_match.specs.Passed.{IsPassed, IsOn, IsFind, IsFindIfAny, IsFreshFindIfAny, IsLeastSoFar, AreExcusedSoFar, AllAsked, AreFreshAt, IsAgainSoFar, IsPassedAgain, IsSoFar, MapsOne, NoneMayApply, Holds, rank_of, state_at}
+use Rattle.rule_match.specs.Passed.{IsPassed, IsOn, IsFind, IsFindIfAny, DoFewSuffice, HoldsFew, IsEnough, IsFreshFindIfAny, IsLeastSoFar, AreExcusedSoFar, AllAsked, AreFreshAt, IsAgainSoFar, IsPassedAgain, IsSoFar, MapsOne, NoneMayApply, Holds, rank_of, state_at}
 use Rattle.rule_match.specs.declared.progress.Note.{Note}
 use Rattle.rule_match.specs.Refused.{HasNoneAgain, HasOneAgain, IsAllowed, FitsFront, IsExcused, IsRefusedAgain, IsRefusedBy}
 use Rattle.rule_match.specs.Noted.{HasExcuse}
@@ -37,7 +38,7 @@ use Rattle.rule_match.proofs.Standing.{all_there, within}
 use Rattle.rule_match.proofs.NextPoint.{points_of}
 use Rattle.std.proofs.lemmas.Bool.{cases_lt, eqb-false, eqb-true}
 use Rattle.std.proofs.lemmas.List.Elements.{Contains-append_cases, Contains-append_left, Contains-append_right}
-use Rattle.std.specs.Prelude.{is_some, nat_eq, ◌++◌}
+use Rattle.std.specs.Prelude.{Bool, is_some, nat_eq, ◌++◌}
 use Rattle.state_law.specs.Region.{IsRegion}
 use Rattle.state_law.proofs.Region.{region_front}
 use Rattle.std.proofs.lemmas.List.{get_or-map, length-map}
@@ -45,7 +46,7 @@ use Rattle.rule_match.specs.MoreNotes.{excused_after, excused_more}
 use Rattle.rule_match.proofs.Places.{allowed, excused_none, on_its_front}
 use Rattle.rule_match.proofs.Advances.{advance_wider, none_before, no_worse_chain}
 use Rattle.rule_match.proofs.Regions.{single}
-use Rattle.rule_match.proofs.Gathered.{line_numbered}
+use Rattle.rule_match.proofs.Gathered.{line_numbered, same_ends}
 use Rattle.rule_match.proofs.Tried.{tried}
 
 -- ---- an attempt on the base line is one of its rule's assignments
@@ -68,11 +69,11 @@ record HasAssignment (tried : Tried) (t : Attempt) : Type 0 where
   counted : length assignment ≡ length tried.rule.points
   fits : fits_so_far (ties (setting_at tried)) assignment ≡ true
 
-assigned : (base : BaseLine) (rules : List Rule) (t : Attempt) → IsBaseLine base → IsOn base rules t → IsAllowed (state_at base) t → FitsFront (state_at base) t → HasAssignment (record { base = base; number = t.rule; rule = t.text }) t
-assigned base rules t line on a h =
+assigned : (base : BaseLine) (rules : List Rule) (t : Attempt) → IsBaseLine base → IsOn base rules t → AreLookedAt base.scope t.points → IsAllowed (state_at base) t → FitsFront (state_at base) t → HasAssignment (record { base = base; number = t.rule; rule = t.text }) t
+assigned base rules t line on looked a h =
     let u : Attempt = record { class = base.class; line = base.line; frame = base.frame; rule = t.rule; text = t.text; points = t.points } in
     let same : t ≡ u = λ i. record { class = on.class i; line = on.line i; frame = on.frame i; rule = t.rule; text = t.text; points = t.points } in
-    let found = tried (state_at base) u base.near base.lines line.surrounded.around (subst (IsAllowed (state_at base)) same a) (subst (FitsFront (state_at base)) same h) in
+    let found = tried (state_at base) u base.near base.lines base.scope line.surrounded.around looked (subst (IsAllowed (state_at base)) same a) (subst (FitsFront (state_at base)) same h) in
     let numbers : numbers_at base.near found.assignment ≡ t.points = numbers_are base.near found.assignment t.points found.stands in
     record {
       assignment = found.assignment;
@@ -83,7 +84,7 @@ assigned base rules t line on a h =
 
 -- ---- rule after rule
 none_so_far : (b : BaseLine) (rules : List Rule) → IsLeastSoFar b rules 0 None
-none_so_far b rules = record { found = tt; least = λ t on few c. absurd (no_rule t.rule on.first few) }
+none_so_far b rules = record { found = tt; least = λ t on few looked c. absurd (no_rule t.rule on.first few) }
   where
     no_rule : (n : ℕ) → 1 ≤ n → n ≤ 0 → ⊥
     no_rule n h k = omega (arith, h, k)
@@ -103,11 +104,11 @@ text_at rules n k text rule e h is =
 
 -- a rule that never applies at the class changes nothing
 skipped : (b : BaseLine) (rules : List Rule) (k : ℕ) (rule : Rule) (best : Option Found) → slice_get rules k ≡ Some rule → (IsLive rule → rule.quality ≤ b.class → ⊥) → IsLeastSoFar b rules k best → IsLeastSoFar b rules (k + 1) best
-skipped b rules k rule best is never so_far = record { found = so_far.found; least = λ t on few c. by t on c (before_or_last t.rule k few) }
+skipped b rules k rule best is never so_far = record { found = so_far.found; least = λ t on few looked c. by t on looked c (before_or_last t.rule k few) }
   where
-    by : (t : Attempt) → IsOn b rules t → IsCandidate (state_at b) t → (t.rule ≤ k) ⊎ (t.rule ≡ k + 1) → IsNoWorse best (Some (rank (state_at b) t))
-    by t on c (inl few) = so_far.least t on few c
-    by t on c (inr e) =
+    by : (t : Attempt) → IsOn b rules t → AreLookedAt b.scope t.points → IsCandidate (state_at b) t → (t.rule ≤ k) ⊎ (t.rule ≡ k + 1) → IsNoWorse best (Some (rank (state_at b) t))
+    by t on looked c (inl few) = so_far.least t on few looked c
+    by t on looked c (inr e) =
         let same : t.text ≡ rule = text_at rules t.rule k t.text rule e on.is_rule is in
         absurd (never (subst IsLive same c.live) (subst (λ (n : ℕ). rule.quality ≤ n) on.class (subst (λ (r : Rule). r.quality ≤ t.class) same c.quality)))
 
@@ -131,20 +132,20 @@ found_passed b rules k rule old new is advance before = kept new.best advance.fr
 -- a rule that is passed
 passed : (b : BaseLine) (rules : List Rule) (k : ℕ) (rule : Rule) (old new : Progress) → IsBaseLine b → slice_get rules k ≡ Some rule → IsPassed (record { base = b; number = k + 1; rule = rule }) old new
     → IsLeastSoFar b rules k old.best → IsLeastSoFar b rules (k + 1) new.best
-passed b rules k rule old new line is p so_far = record { found = found_passed b rules k rule old new is p.advance so_far.found; least = λ t on few c. by t on c (before_or_last t.rule k few) }
+passed b rules k rule old new line is p so_far = record { found = found_passed b rules k rule old new is p.advance so_far.found; least = λ t on few looked c. by t on looked c (before_or_last t.rule k few) }
   where
-    by : (t : Attempt) → IsOn b rules t → IsCandidate (state_at b) t → (t.rule ≤ k) ⊎ (t.rule ≡ k + 1) → IsNoWorse new.best (Some (rank (state_at b) t))
-    by t on c (inl few) = no_worse_chain new.best old.best (Some (rank (state_at b) t)) p.advance.no_worse (so_far.least t on few c)
-    by t on c (inr e) =
+    by : (t : Attempt) → IsOn b rules t → AreLookedAt b.scope t.points → IsCandidate (state_at b) t → (t.rule ≤ k) ⊎ (t.rule ≡ k + 1) → IsNoWorse new.best (Some (rank (state_at b) t))
+    by t on looked c (inl few) = no_worse_chain new.best old.best (Some (rank (state_at b) t)) p.advance.no_worse (so_far.least t on few looked c)
+    by t on looked c (inr e) =
         let same : t.text ≡ rule = text_at rules t.rule k t.text rule e on.is_rule is in
         let those : IsPassed (record { base = b; number = t.rule; rule = t.text }) old new = subst (λ (n : ℕ). IsPassed (record { base = b; number = n; rule = t.text }) old new) (sym e) (subst (λ (r : Rule). IsPassed (record { base = b; number = k + 1; rule = r }) old new) (sym same) p) in
-        let a = assigned b rules t line on (allowed (state_at b) t c) (on_its_front (state_at b) t c) in
+        let a = assigned b rules t line on looked (allowed (state_at b) t c) (on_its_front (state_at b) t c) in
         subst (λ (u : Attempt). IsNoWorse new.best (Some (rank (state_at b) u))) a.same
         (those.least a.assignment a.counted a.fits (subst (IsCandidate (state_at b)) (sym a.same) c))
 
 -- ---- reasons, rule after rule
 none_excused : (b : BaseLine) (rules : List Rule) (Asked : List ℕ → Type 0) (p : Progress) → AreExcusedSoFar b rules 0 Asked p
-none_excused b rules Asked p = record { excused = λ none noting t on few q a h. absurd (no_rule t.rule on.first few) }
+none_excused b rules Asked p = record { excused = λ none noting t on few looked q a h. absurd (no_rule t.rule on.first few) }
   where
     no_rule : (n : ℕ) → 1 ≤ n → n ≤ 0 → ⊥
     no_rule n h k = omega (arith, h, k)
@@ -156,11 +157,11 @@ so_far_none b rules p e = record {
 }
 
 skipped_excused : (b : BaseLine) (rules : List Rule) (k : ℕ) (rule : Rule) (Asked : List ℕ → Type 0) (p : Progress) → slice_get rules k ≡ Some rule → (IsLive rule → rule.quality ≤ b.class → ⊥) → AreExcusedSoFar b rules k Asked p → AreExcusedSoFar b rules (k + 1) Asked p
-skipped_excused b rules k rule Asked p is never so_far = record { excused = λ none noting t on few q a h. by none noting t on q a h (before_or_last t.rule k few) }
+skipped_excused b rules k rule Asked p is never so_far = record { excused = λ none noting t on few looked q a h. by none noting t on looked q a h (before_or_last t.rule k few) }
   where
-    by : p.best ≡ None → b.noting ≡ true → (t : Attempt) → IsOn b rules t → Asked t.points → IsAllowed (state_at b) t → FitsFront (state_at b) t → (t.rule ≤ k) ⊎ (t.rule ≡ k + 1) → IsExcused (state_at b) p.notes.items t
-    by none noting t on q a h (inl few) = so_far.excused none noting t on few q a h
-    by none noting t on q a h (inr e) =
+    by : p.best ≡ None → b.noting ≡ true → (t : Attempt) → IsOn b rules t → AreLookedAt b.scope t.points → Asked t.points → IsAllowed (state_at b) t → FitsFront (state_at b) t → (t.rule ≤ k) ⊎ (t.rule ≡ k + 1) → IsExcused (state_at b) p.notes.items t
+    by none noting t on looked q a h (inl few) = so_far.excused none noting t on few looked q a h
+    by none noting t on looked q a h (inr e) =
         let same : t.text ≡ rule = text_at rules t.rule k t.text rule e on.is_rule is in
         absurd (never (subst IsLive same a.live) (subst (λ (n : ℕ). rule.quality ≤ n) on.class (subst (λ (r : Rule). r.quality ≤ t.class) same a.quality)))
 
@@ -170,15 +171,15 @@ Excuses t Asked p = (c : List ℕ) → length c ≡ length t.rule.points → fit
 
 passed_excused : (b : BaseLine) (rules : List Rule) (k : ℕ) (rule : Rule) (Asked : List ℕ → Type 0) (old new : Progress) → IsBaseLine b → slice_get rules k ≡ Some rule →
     IsAdvance (Holds (record { base = b; number = k + 1; rule = rule })) (rank_of (record { base = b; number = k + 1; rule = rule })) old new → Excuses (record { base = b; number = k + 1; rule = rule }) Asked new → AreExcusedSoFar b rules k Asked old → AreExcusedSoFar b rules (k + 1) Asked new
-passed_excused b rules k rule Asked old new line is advance excuses so_far = record { excused = λ none noting t on few q a h. by none noting t on q a h (before_or_last t.rule k few) }
+passed_excused b rules k rule Asked old new line is advance excuses so_far = record { excused = λ none noting t on few looked q a h. by none noting t on looked q a h (before_or_last t.rule k few) }
   where
-    by : new.best ≡ None → b.noting ≡ true → (t : Attempt) → IsOn b rules t → Asked t.points → IsAllowed (state_at b) t → FitsFront (state_at b) t → (t.rule ≤ k) ⊎ (t.rule ≡ k + 1) → IsExcused (state_at b) new.notes.items t
-    by none noting t on q a h (inl few) = subst (λ (notes : List Note). IsExcused (state_at b) notes t) (sym advance.noted.1)
-        (excused_more (state_at b) old.notes.items advance.noted.0 t (so_far.excused (none_before new.best old.best advance.no_worse none) noting t on few q a h))
-    by none noting t on q a h (inr e) =
+    by : new.best ≡ None → b.noting ≡ true → (t : Attempt) → IsOn b rules t → AreLookedAt b.scope t.points → Asked t.points → IsAllowed (state_at b) t → FitsFront (state_at b) t → (t.rule ≤ k) ⊎ (t.rule ≡ k + 1) → IsExcused (state_at b) new.notes.items t
+    by none noting t on looked q a h (inl few) = subst (λ (notes : List Note). IsExcused (state_at b) notes t) (sym advance.noted.1)
+        (excused_more (state_at b) old.notes.items advance.noted.0 t (so_far.excused (none_before new.best old.best advance.no_worse none) noting t on few looked q a h))
+    by none noting t on looked q a h (inr e) =
         let same : t.text ≡ rule = text_at rules t.rule k t.text rule e on.is_rule is in
         let those : Excuses (record { base = b; number = t.rule; rule = t.text }) Asked new = subst (λ (n : ℕ). Excuses (record { base = b; number = n; rule = t.text }) Asked new) (sym e) (subst (λ (r : Rule). Excuses (record { base = b; number = k + 1; rule = r }) Asked new) (sym same) excuses) in
-        let s = assigned b rules t line on a h in
+        let s = assigned b rules t line on looked a h in
         subst (IsExcused (state_at b) new.notes.items) s.same (those s.assignment s.counted s.fits (subst (λ (u : Attempt). Asked u.points) (sym s.same) q) none noting (subst (IsAllowed (state_at b)) (sym s.same) a))
 
 -- the rule with a number from 1
@@ -383,40 +384,44 @@ pub none_may_all : (class k count : ℕ) (rules : List Rule) → count ≡ lengt
 none_may_all class k count rules whole ended idle = λ number few. idle number (omega (arith, few, whole, ended))
 
 -- ---- over all rules
+pub looked_at_all : (scope : Scope) (ns : List ℕ) → scope.whole ≡ true → AreLookedAt scope ns
+looked_at_all scope [] e = tt
+looked_at_all scope (n ∷ ns) e = (subst (λ (b : Bool). is_in b scope.these.items n) (sym e) tt, looked_at_all scope ns e)
+
 -- a line by whose base nothing is found is refused by the notes
-pub refused_found : (sizes : SizeField) (f : FrontState) (rules : List Rule) (line class : ℕ) (b : BaseLine) (p : Progress) → IsBaseOf sizes f line class b → b.noting ≡ true → p.best ≡ None → IsSoFar b rules (length rules) p → IsRefusedBy sizes (state_of f) rules line class p.notes.items
-refused_found sizes f rules line class b p is noting none so_far = record {
+pub refused_found : (sizes : SizeField) (f : FrontState) (rules : List Rule) (line class : ℕ) (b : BaseLine) (p : Progress) → IsBaseOf sizes f line class b → b.scope.whole ≡ true → b.noting ≡ true → p.best ≡ None → IsSoFar b rules (length rules) p → IsRefusedBy sizes (state_of f) rules line class p.notes.items
+refused_found sizes f rules line class b p is whole noting none so_far = record {
   excused = λ t of a h.
       let on = on_base sizes f rules line class b t is of in
-      subst (λ (g : FrontState). IsExcused (state_of g) p.notes.items t) is.front (so_far.excused.excused none noting t on (all_rules rules t t.text on.first on.is_rule) tt
+      subst (λ (g : FrontState). IsExcused (state_of g) p.notes.items t) is.front (so_far.excused.excused none noting t on (all_rules rules t t.text on.first on.is_rule) (looked_at_all b.scope t.points whole) tt
       (subst (λ (g : FrontState). IsAllowed (state_of g) t) (sym is.front) a) (subst (λ (g : FrontState). FitsFront (state_of g) t) (sym is.front) h));
 }
 
-pub none_found : (sizes : SizeField) (f : FrontState) (rules : List Rule) (line class : ℕ) (b : BaseLine) → IsBaseOf sizes f line class b → IsLeastSoFar b rules (length rules) None → HasNone sizes (state_of f) rules line class
-none_found sizes f rules line class b is so_far = record {
+pub none_found : (sizes : SizeField) (f : FrontState) (rules : List Rule) (line class : ℕ) (b : BaseLine) → IsBaseOf sizes f line class b → b.scope.whole ≡ true → IsLeastSoFar b rules (length rules) None → HasNone sizes (state_of f) rules line class
+none_found sizes f rules line class b is whole so_far = record {
   none = λ t of c.
       let on = on_base sizes f rules line class b t is of in
-      so_far.least t on (all_rules rules t t.text on.first on.is_rule) (subst (λ (g : FrontState). IsCandidate (state_of g) t) (sym is.front) c);
+      so_far.least t on (all_rules rules t t.text on.first on.is_rule) (looked_at_all b.scope t.points whole) (subst (λ (g : FrontState). IsCandidate (state_of g) t) (sym is.front) c);
 }
 
-least_found : (sizes : SizeField) (f : FrontState) (rules : List Rule) (line class : ℕ) (b : BaseLine) (t : Attempt) (found : Found) → IsBaseOf sizes f line class b → IsLeastSoFar b rules (length rules) (Some found)
+least_found : (sizes : SizeField) (f : FrontState) (rules : List Rule) (line class : ℕ) (b : BaseLine) (t : Attempt) (found : Found) → IsBaseOf sizes f line class b → b.scope.whole ≡ true → IsLeastSoFar b rules (length rules) (Some found)
     → IsOn b rules t → IsCandidate (state_at b) t → found ≡ rank (state_at b) t → IsLeast sizes (state_of f) rules line class t
-least_found sizes f rules line class b t found is so_far on c same =
+least_found sizes f rules line class b t found is whole so_far on c same =
     subst (λ (g : FrontState). IsLeast sizes (state_of g) rules line class t) is.front record {
       of = subst (λ (g : FrontState). IsOf sizes (state_of g) rules line class t) (sym is.front) (of_line sizes f rules line class b t is on);
       candidate = c;
       least = λ other of d.
           let there = on_base sizes f rules line class b other is (subst (λ (g : FrontState). IsOf sizes (state_of g) rules line class other) is.front of) in
-          subst (λ (r : Found). IsNoWorse (Some r) (Some (rank (state_at b) other))) same (so_far.least other there (all_rules rules other other.text there.first there.is_rule) d);
+          subst (λ (r : Found). IsNoWorse (Some r) (Some (rank (state_at b) other))) same (so_far.least other there (all_rules rules other other.text there.first there.is_rule) (looked_at_all b.scope other.points whole) d);
     }
 
-pub best_of : (sizes : SizeField) (f : FrontState) (rules : List Rule) (line class : ℕ) (b : BaseLine) (found : Found) (a : Application) → IsBaseOf sizes f line class b → IsLeastSoFar b rules (length rules) (Some found)
+pub best_of : (sizes : SizeField) (f : FrontState) (rules : List Rule) (line class : ℕ) (b : BaseLine) (found : Found) (a : Application) → IsBaseOf sizes f line class b → b.scope.whole ≡ true → IsLeastSoFar b rules (length rules) (Some found)
     → ((t : Attempt) → IsOn b rules t → IsCandidate (state_at b) t → found ≡ rank (state_at b) t → a ≡ application (state_at b) t) → IsBest sizes (state_of f) rules line class a
-best_of sizes f rules line class b found a is so_far gives =
+best_of sizes f rules line class b found a is whole so_far gives =
     let find : IsFind b rules found = so_far.found in let t = find.attempt in
     record {
       attempt = t;
-      least = least_found sizes f rules line class b t found is so_far find.on find.candidate find.is;
+      least = least_found sizes f rules line class b t found is whole so_far find.on find.candidate find.is;
       gives = gives t find.on find.candidate find.is ∙ ap (λ (g : FrontState). application (state_of g) t) is.front;
     }
 
@@ -430,12 +435,12 @@ one_found sizes f rules line class fresh b found is find maps =
       candidate = find.candidate;
     })
 
-pub refused_again : (sizes : SizeField) (f : FrontState) (rules : List Rule) (line class : ℕ) (fresh : List ℕ) (b : BaseLine) (p : Progress) → IsBaseOf sizes f line class b → b.noting ≡ true → p.best ≡ None → IsAgainSoFar b rules (length rules) fresh p
+pub refused_again : (sizes : SizeField) (f : FrontState) (rules : List Rule) (line class : ℕ) (fresh : List ℕ) (b : BaseLine) (p : Progress) → IsBaseOf sizes f line class b → IsEnough sizes (state_of f) rules line class fresh b.scope → b.noting ≡ true → p.best ≡ None → IsAgainSoFar b rules (length rules) fresh p
     → IsRefusedAgain sizes (state_of f) rules line class fresh p.notes.items
-refused_again sizes f rules line class fresh b p is noting none so_far = record {
+refused_again sizes f rules line class fresh b p is enough noting none so_far = record {
   excused = λ t of a h m.
       let on = on_base sizes f rules line class b t is of in
-      subst (λ (g : FrontState). IsExcused (state_of g) p.notes.items t) is.front (so_far.excused.excused none noting t on (all_rules rules t t.text on.first on.is_rule) m
+      subst (λ (g : FrontState). IsExcused (state_of g) p.notes.items t) is.front (so_far.excused.excused none noting t on (all_rules rules t t.text on.first on.is_rule) (enough t of a m) m
       (subst (λ (g : FrontState). IsAllowed (state_of g) t) (sym is.front) a) (subst (λ (g : FrontState). FitsFront (state_of g) t) (sym is.front) h));
 }
 
@@ -458,3 +463,53 @@ one_if_some sizes f rules line class fresh b (Some found) is find e = one_found 
 pub none_if_not : (o : Option Found) → is_some o ≡ false → o ≡ None
 none_if_not None e = refl
 none_if_not (Some found) e = absurd (true≢false e)
+
+-- ---- what an attempt that maps a fresh point may map
+-- of a list of at most three numbers, the line's ends first, of which one is fresh: all are of these
+within_these : {class : ℕ} {rules : List Rule} {ends : ℕ × ℕ} {fresh these : List ℕ} (ns : List ℕ) → HoldsFew class rules ends fresh these → length ns ≤ 3 → nth ns 1 ≡ ends.0 → nth ns 2 ≡ ends.1 → MapsOne fresh ns → AllByRecursion (Contains these) ns
+within_these {class} {rules} {ends} {fresh} {these} ns h l f g m = by ns l f g m
+  where
+    -- the fresh one is the third
+    third : (x y z : ℕ) → x ≡ ends.0 → y ≡ ends.1 → (i p : ℕ) → i < 3 → slice_index_or (x ∷ y ∷ z ∷ []) i p ≡ p → Contains fresh p → Contains fresh z
+    third x y z f g zero p l e c = absurd (h.few.stale_from (subst (Contains fresh) (sym e ∙ f) c))
+    third x y z f g (suc zero) p l e c = absurd (h.few.stale_to (subst (Contains fresh) (sym e ∙ g) c))
+    third x y z f g (suc (suc zero)) p l e c = subst (Contains fresh) (sym e) c
+    third x y z f g (suc (suc (suc i))) p l e c = absurd (omega (arith, l))
+
+    by : (ns : List ℕ) → length ns ≤ 3 → nth ns 1 ≡ ends.0 → nth ns 2 ≡ ends.1 → MapsOne fresh ns → AllByRecursion (Contains these) ns
+    by [] l f g m = tt
+    by (x ∷ []) l f g m = (subst (Contains these) (sym f) h.holds_from, tt)
+    by (x ∷ y ∷ []) l f g m = (subst (Contains these) (sym f) h.holds_from, (subst (Contains these) (sym g) h.holds_to, tt))
+    by (x ∷ y ∷ z ∷ []) l f g m = (subst (Contains these) (sym f) h.holds_from, (subst (Contains these) (sym g) h.holds_to, (h.holds_fresh z (third x y z f g m.0 m.1 m.2 m.3 m.4), tt)))
+    by (x ∷ y ∷ z ∷ w ∷ ws) l f g m = absurd (omega (arith, l))
+
+-- the list made of the ends and the fresh points holds them
+pub holds_few : {class : ℕ} {rules : List Rule} {ends : ℕ × ℕ} {fresh one two all : List ℕ} (none : List ℕ) → DoFewSuffice class rules ends fresh → one ≡ none ++ ends.0 ∷ [] → two ≡ one ++ ends.1 ∷ [] → all ≡ two ++ fresh → HoldsFew class rules ends fresh all
+holds_few {class} {rules} {ends} {fresh} {one} {two} {all} none few e f g = record {
+  few = few;
+  holds_from = after (ends.0) (subst (λ (z : List ℕ). Contains z ends.0) (sym f) (Contains-append_left one (ends.1 ∷ []) ends.0 (subst (λ (z : List ℕ). Contains z ends.0) (sym e) (Contains-append_right none (ends.0 ∷ []) ends.0 (0, omega arith, refl)))));
+  holds_to = after (ends.1) (subst (λ (z : List ℕ). Contains z ends.1) (sym f) (Contains-append_right one (ends.1 ∷ []) ends.1 (0, omega arith, refl)));
+  holds_fresh = λ n c. subst (λ (z : List ℕ). Contains z n) (sym g) (Contains-append_right two fresh n c);
+}
+  where
+    after : (n : ℕ) → Contains two n → Contains all n
+    after n c = subst (λ (z : List ℕ). Contains z n) (sym g) (Contains-append_left two fresh n c)
+
+looked_at_these : (scope : Scope) (ns : List ℕ) → scope.whole ≡ false → AllByRecursion (Contains scope.these.items) ns → AreLookedAt scope ns
+looked_at_these scope [] e h = tt
+looked_at_these scope (n ∷ ns) e h = (subst (λ (b : Bool). is_in b scope.these.items n) (sym e) h.0, looked_at_these scope ns e h.1)
+
+-- so what maps a fresh point maps points alone that are looked at
+pub few_enough : (sizes : SizeField) (f : FrontState) (rules : List Rule) (line class : ℕ) (ends : ℕ × ℕ) (fresh : List ℕ) (scope : Scope) → AreRising f.lines f.next → line_at f.lines line ≡ Some ends →
+    (scope.whole ≡ false → HoldsFew class rules ends fresh scope.these.items) → IsEnough sizes (state_of f) rules line class fresh scope
+few_enough sizes f rules line class ends fresh scope rising at held t of a m = by scope.whole refl
+  where
+    by : (b : Bool) → scope.whole ≡ b → AreLookedAt scope t.points
+    by true e = looked_at_all scope t.points e
+    by false e =
+        let h = held e in
+        let here : line_at f.lines line ≡ Some (t.line.1, t.line.2) = ap (line_at f.lines) (sym of.same_line) ∙ line_numbered f.lines f.next of.on_front.0 t.line t.line rising of.on_front.1 of.on_front.2 in
+        let same : (t.line.1, t.line.2) ≡ ends = same_ends (t.line.1, t.line.2) ends (sym here ∙ at) in
+        let last = all_rules rules t t.text of.numbered of.is_rule in
+        let short : length t.text.points ≤ 3 = h.few.short (t.rule - 1) (omega (arith, of.numbered, last)) t.text of.is_rule a.live (subst (λ (n : ℕ). t.text.quality ≤ n) of.same_class a.quality) in
+        looked_at_these scope t.points e (within_these t.points h (subst (λ (n : ℕ). n ≤ 3) (sym a.counted) short) (a.at_start ∙ ap (λ (z : ℕ × ℕ). z.0) same) (a.at_end ∙ ap (λ (z : ℕ × ℕ). z.1) same) m)

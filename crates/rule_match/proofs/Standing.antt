@@ -106,7 +106,7 @@ module _ (t : Tried) where
       ends_right (k + 1) ms (pre ++ x ∷ []) b (omega (arith, e, longer pre x)) (omega (arith, l)) (subst (λ (z : List ℕ). list_all (is_met z) (point_ties s (k + 1) ms) ≡ true) (sym (append_assoc pre (x ∷ []) b)) g.1) i j (omega (arith, f)) (omega (arith, r))
 
   module _ (i : IsTrying t) where
-    around : IsAround st t.base.frame near t.base.lines
+    around : IsAround st t.base.frame t.base.scope near t.base.lines
     around = i.base.surrounded.around
 
     pub place_of : (k : ℕ) → k < length near → (near_at near k).at ≡ point_at st.points (near_at near k).number

@@ -1,5 +1,5 @@
 -- A refused line stays refused over an application, where the attempts that map a fresh point were looked at again: one that maps none was an attempt before, and its reason of then still stands.
-use Rattle.std.proofs.Common.{◌≡◌, ℕ, zero, suc, ◌+◌, ◌-◌, ◌<◌, ◌≤◌, ◌⊎◌, inl, inr, Bool, true, false, cond, List, [], ◌∷◌, ◌++◌, length, map, slice_index_or, refl, sym, ap, ◌∙◌, subst, arith, length-append, nat_eq, pos}
+use Rattle.std.proofs.Common.{◌≡◌, ℕ, zero, suc, ◌+◌, ◌-◌, ◌<◌, ◌≤◌, ◌⊎◌, inl, inr, Bool, true, false, cond, List, [], ◌∷◌, ◌++◌, length, slice_index_or, refl, sym, ◌∙◌, subst, arith, length-append, nat_eq, pos}
 use mathlib.Core.Bool.{true≢false}
 use Rattle.std.specs.Prelude.{filter, ◌&&◌, ◌||◌}
 use Rattle.std.specs.List.{AllByRecursion, Any, Contains, list_any}
@@ -15,7 +15,7 @@ use Rattle.state_law.specs.Free.{IsIn}
 use Rattle.state_law.specs.Saved.{IsCorner}
 use Rattle.state_law.specs.Saved as saved
 use Rattle.state_law.specs.Gluing.{glue_all, IsClearOf}
-use Rattle.state_law.specs.State.{State, point_at, pair_edge, front_edges, corners_of, IsListed}
+use Rattle.state_law.specs.State.{State, point_at, pair_edge, front_edges, IsListed}
 use Rattle.state_law.specs.Refusal.{HasReason, place_taken, not_turned, line_in_zone, line_hinders, outside_front, too_large}
 use Rattle.state_law.specs.Refusal as refusal
 use Rattle.state_law.proofs.Lists.{all_append, all_both, all_map, all_second, at_edge}

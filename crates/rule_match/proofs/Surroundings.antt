@@ -16,10 +16,11 @@ use Rattle.rule_maps.specs.Frame.{LocalFrame, IsInRange}
 use Rattle.state_law.specs.State.{point_at, IsListed}
 use Rattle.front_chain.specs.Front.{FrontState, IsFrontState, state_of, is_end}
 use Rattle.front_chain.proofs.Ends.{end_leaves}
+use Rattle.rule_match.specs.declared.around.Scope.{Scope}
 use Rattle.rule_match.specs.declared.near.NearPoint.{NearPoint}
 use Rattle.rule_match.specs.Candidate.{IsFrontPair, IsFrontPoint}
 use Rattle.rule_match.specs.Trying.{near_at, nowhere, does_go}
-use Rattle.rule_match.specs.Around.{IsPointOf, IsSurrounding, near_of, IsStartNear, HasStartsNear}
+use Rattle.rule_match.specs.Around.{IsLookedAt, IsPointOf, IsSurrounding, near_of, IsStartNear, HasStartsNear}
 
 -- ---- an item that passes
 pub any_fact : {X : Type 0} (P Q : X → Type 0) (xs : List X) → AllByRecursion P xs → Any Q xs → (x : X) × P x × Q x
@@ -103,7 +104,7 @@ module _ (f : FrontState) (frame : LocalFrame) (lines : List (ℕ × ℕ)) (star
   fewer : (k : ℕ) → k < length near_points → k < length starts
   fewer k h = subst (λ (n : ℕ). k < n) counted h
 
-  module _ (s : IsFrontState f) (only : All (IsStartNear (state_of f) frame) lines) (all : HasStartsNear (state_of f) frame lines) (rising : IsStrictlyIncreasing starts)
+  module _ (s : IsFrontState f) (scope : Scope) (only : All (IsStartNear (state_of f) frame) lines) (all : HasStartsNear (state_of f) frame scope lines) (rising : IsStrictlyIncreasing starts)
       (is : (n : ℕ) → Contains starts n ↔ Contains (map (λ (line : ℕ × ℕ). line.0) lines) n) where
     number_near : (k : ℕ) → k < length near_points → IsNearNumber f frame (slice_index_or starts k 0)
     number_near k h = starts_near f frame lines starts s only is k 0 (fewer k h)
@@ -117,10 +118,10 @@ module _ (f : FrontState) (frame : LocalFrame) (lines : List (ℕ × ℕ)) (star
         let m : e.1.0 ≡ n = eqb-true e.1.0 n (both_of (nat_eq e.1.0 n) (nat_eq e.1.1 b) e.4).0 in
         (e.0, subst (λ (n : ℕ). e.0 < n) (sym (length-map lines (λ (line : ℕ × ℕ). line.0))) e.2, get_or-map (λ (line : ℕ × ℕ). line.0) lines e.0 e.1 n e.2 ∙ ap (λ (line : ℕ × ℕ). line.0) e.3 ∙ m)
 
-    all_near : (n : ℕ) → IsFrontPoint (state_of f) n → IsInRange frame (point_at f.points n) → (k : ℕ) × (k < length near_points) × ((near_at near_points k).number ≡ n)
-    all_near n p r =
+    all_near : (n : ℕ) → IsLookedAt scope n → IsFrontPoint (state_of f) n → IsInRange frame (point_at f.points n) → (k : ℕ) × (k < length near_points) × ((near_at near_points k).number ≡ n)
+    all_near n looked p r =
         let pair = leaves f n s p in
-        let c : Contains starts n = (is n).1 (start_of n pair.0 (all n pair.0 pair.1 r)) in
+        let c : Contains starts n = (is n).1 (start_of n pair.0 (all n pair.0 looked pair.1 r)) in
         let h : c.0 < length near_points = subst (λ (n : ℕ). c.0 < n) (sym counted) c.1 in
         (c.0, h, ap (λ (z : NearPoint). z.number) (near_is c.0 h) ∙ same_fallback starts c.0 0 n c.1 ∙ c.2)
       where
@@ -151,15 +152,15 @@ module _ (f : FrontState) (frame : LocalFrame) (lines : List (ℕ × ℕ)) (star
         let p : IsFrontPair (state_of f) e.1 = (All-contains (IsStartNear (state_of f) frame) lines e.1 only (e.0, e.2, e.3)).0 in
         subst (λ (n : ℕ). IsFrontPair (state_of f) (n, b)) (eqb-true e.1.0 a t.0) (subst (λ (n : ℕ). IsFrontPair (state_of f) (e.1.0, n)) (eqb-true e.1.1 b t.1) p)
 
-    surrounding : IsSurrounding (state_of f) frame near_points lines
+    surrounding : IsSurrounding (state_of f) frame scope near_points lines
     surrounding = record {
-      around = record { points = point_is; all_points = all_near; all_lines = λ a b p r q. all a b p r };
+      around = record { points = point_is; all_points = all_near; all_lines = λ a b looked k p r q. all a b looked p r };
       on_front = λ k h. subst (λ (z : NearPoint). IsFrontPoint (state_of f) z.number) (sym (near_is k h)) (number_near k h).on_front;
       in_range = λ k h. subst (λ (z : NearPoint). IsInRange frame z.at) (sym (near_is k h)) (number_near k h).in_range;
       once = once;
       front_lines = only_front;
     }
 
-pub surrounds : (f : FrontState) (frame : LocalFrame) (lines : List (ℕ × ℕ)) (starts : List ℕ) (near : List NearPoint) → IsFrontState f → All (IsStartNear (state_of f) frame) lines → HasStartsNear (state_of f) frame lines →
-    IsStrictlyIncreasing starts → ((n : ℕ) → Contains starts n ↔ Contains (map (λ (line : ℕ × ℕ). line.0) lines) n) → near ≡ map (near_of f.points frame) starts → IsSurrounding (state_of f) frame near lines
-surrounds f frame lines starts near s only all rising is e = subst (λ (ns : List NearPoint). IsSurrounding (state_of f) frame ns lines) (sym e) (surrounding f frame lines starts s only all rising is)
+pub surrounds : (f : FrontState) (frame : LocalFrame) (lines : List (ℕ × ℕ)) (starts : List ℕ) (near : List NearPoint) (scope : Scope) → IsFrontState f → All (IsStartNear (state_of f) frame) lines → HasStartsNear (state_of f) frame scope lines →
+    IsStrictlyIncreasing starts → ((n : ℕ) → Contains starts n ↔ Contains (map (λ (line : ℕ × ℕ). line.0) lines) n) → near ≡ map (near_of f.points frame) starts → IsSurrounding (state_of f) frame scope near lines
+surrounds f frame lines starts near scope s only all rising is e = subst (λ (ns : List NearPoint). IsSurrounding (state_of f) frame scope ns lines) (sym e) (surrounding f frame lines starts s scope only all rising is)

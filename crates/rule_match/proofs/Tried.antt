@@ -20,12 +20,13 @@ use Rattle.rule_reader.specs.declared.rule.MapPoint.{MapPoint}
 use Rattle.rule_reader.specs.declared.rule.MapLine.{MapLine}
 use Rattle.rule_maps.specs.Frame.{IsInRange}
 use Rattle.state_law.specs.State.{State, point_at, corners_of}
+use Rattle.rule_match.specs.declared.around.Scope.{Scope}
 use Rattle.rule_match.specs.declared.near.NearPoint.{NearPoint}
 use Rattle.rule_match.specs.Candidate.{Attempt, mapped, local4, locals, nth, mapped_pair, IsTolerated, AreTolerated, IsLineTolerated, IsFrontPoint, IsFrontPair, rule_place}
 use Rattle.rule_match.specs.Refused.{IsAllowed, FitsFront}
 use Rattle.rule_match.specs.Fitting.{both_known, known, is_met, are_different, fits_so_far}
 use Rattle.rule_match.specs.Trying.{Setting, near_at, does_go, is_tolerated, is_end_right, point_test, point_tie, point_ties, line_test, line_tie, turn_tie, other_ties, ties}
-use Rattle.rule_match.specs.Around.{IsAround, setting_of, StandFor, IsTried}
+use Rattle.rule_match.specs.Around.{IsAround, AreLookedAt, IsLookedAt, setting_of, StandFor, IsTried}
 use Rattle.rule_match.proofs.Prefixes.{pair, not_from, is_false}
 use Rattle.rule_match.proofs.NextPoint.{all_first}
 
@@ -75,19 +76,19 @@ all_at P (x ∷ xs) (suc i) d h a = all_at P xs i d (omega (arith, h)) a.1
 abbrev IsLineWay : ℕ → List MapPoint → MapLine → ℤ → ℤ → ℤ → ℤ → Type 0
 IsLineWay class ps l a b c d = IsTolerated class l.tol ((b -ℤ a) -ℤ ((rule_place ps l.j).x -ℤ (rule_place ps l.i).x)) ((d -ℤ c) -ℤ ((rule_place ps l.j).y -ℤ (rule_place ps l.i).y))
 
-module _ (st : State) (t : Attempt) (near : List NearPoint) (lines : List (ℕ × ℕ)) (around : IsAround st t.frame near lines) where
+module _ (st : State) (t : Attempt) (near : List NearPoint) (lines : List (ℕ × ℕ)) (scope : Scope) (around : IsAround st t.frame scope near lines) where
   abbrev s : Setting
   s = setting_of t near lines
 
   -- near points for front points in range
-  assigned : (ns : List ℕ) → AllByRecursion (IsFrontPoint st) ns → AllByRecursion (IsInRange t.frame) (corners_of st.points ns) → (b : List ℕ) × StandFor near b ns
-  assigned [] f r = ([], tt)
-  assigned (n ∷ ns) f r =
-      let k : (k : ℕ) × (k < length near) × ((near_at near k).number ≡ n) = around.all_points n f.0 r.0 in
-      let rest : (b : List ℕ) × StandFor near b ns = assigned ns f.1 r.1 in
+  assigned : (ns : List ℕ) → AreLookedAt scope ns → AllByRecursion (IsFrontPoint st) ns → AllByRecursion (IsInRange t.frame) (corners_of st.points ns) → (b : List ℕ) × StandFor near b ns
+  assigned [] a f r = ([], tt)
+  assigned (n ∷ ns) a f r =
+      let k : (k : ℕ) × (k < length near) × ((near_at near k).number ≡ n) = around.all_points n a.0 f.0 r.0 in
+      let rest : (b : List ℕ) × StandFor near b ns = assigned ns a.1 f.1 r.1 in
       (k.0 ∷ rest.0, ((k.1, k.2), rest.1))
 
-  module _ (b : List ℕ) (r : StandFor near b t.points) where
+  module _ (b : List ℕ) (r : StandFor near b t.points) (looked : AreLookedAt scope t.points) where
     -- what is known of a near point at a position
     place_is : (i x : ℕ) → slice_get b i ≡ Some x → (near_at near x).at ≡ slice_index_or (mapped st t) i origin
     place_is i x e = let q : (i < length t.points) × (x < length near) × ((near_at near x).number ≡ slice_index_or t.points i 0) = there near b t.points r i x e in
@@ -146,12 +147,17 @@ module _ (st : State) (t : Attempt) (near : List NearPoint) (lines : List (ℕ �
             let q : (i < length t.points) × (x < length near) × ((near_at near x).number ≡ slice_index_or t.points i 0) = there near b t.points r i x e in
             subst (IsInRange t.frame) (sym (place_is i x e) ∙ (around.points x q.1).place) (all_at (IsInRange t.frame) (mapped st t) i origin (omega (arith, q.0, length-map t.points (point_at st.points))) range)
 
+        looked_at : (i x : ℕ) → slice_get b i ≡ Some x → IsLookedAt scope (near_at near x).number
+        looked_at i x e =
+            let q : (i < length t.points) × (x < length near) × ((near_at near x).number ≡ slice_index_or t.points i 0) = there near b t.points r i x e in
+            subst (IsLookedAt scope) (sym q.2) (all_at (IsLookedAt scope) t.points i 0 q.0 looked)
+
         both_there : (x y : ℕ) → slice_get b (l.i - 1) ≡ Some x → slice_get b (l.j - 1) ≡ Some y → line_test s l (near_at near x) (near_at near y) ≡ true
         both_there x y e g =
             let m : (near_at near x).number ≡ nth t.points l.i = (there near b t.points r (l.i - 1) x e).2 in
             let n : (near_at near y).number ≡ nth t.points l.j = (there near b t.points r (l.j - 1) y g).2 in
             pair (list_any (does_go (near_at near x).number (near_at near y).number) lines) _
-            (around.all_lines (near_at near x).number (near_at near y).number (subst (λ (z : ℕ). IsFrontPair st (z, (near_at near y).number)) (sym m) (subst (λ (z : ℕ). IsFrontPair st (nth t.points l.i, z)) (sym n) f)) (in_range (l.i - 1) x e) (in_range (l.j - 1) y g))
+            (around.all_lines (near_at near x).number (near_at near y).number (looked_at (l.i - 1) x e) (looked_at (l.j - 1) y g) (subst (λ (z : ℕ). IsFrontPair st (z, (near_at near y).number)) (sym m) (subst (λ (z : ℕ). IsFrontPair st (nth t.points l.i, z)) (sym n) f)) (in_range (l.i - 1) x e) (in_range (l.j - 1) y g))
             (true_le _ _ (moved (sym (x_is (l.i - 1) x e)) (sym (x_is (l.j - 1) y g)) (sym (y_is (l.i - 1) x e)) (sym (y_is (l.j - 1) y g)) a))
           where
             moved : {a1 a2 b1 b2 c1 c2 d1 d2 : ℤ} → a1 ≡ a2 → b1 ≡ b2 → c1 ≡ c2 → d1 ≡ d2 →
@@ -192,7 +198,7 @@ module _ (st : State) (t : Attempt) (near : List NearPoint) (lines : List (ℕ �
         (all_first b (map (line_tie s) t.text.lines) (map (turn_tie s) t.text.turns) true (lines_met t.text.lines c.in_range h.at_lines c.lines_tolerated) (sym (turns_met t.text.turns c.turned)))))
 
 -- near points stand for the points of an allowed attempt that fits the front, and meet each test
-pub tried : (st : State) (t : Attempt) (near : List NearPoint) (lines : List (ℕ × ℕ)) → IsAround st t.frame near lines → IsAllowed st t → FitsFront st t → IsTried (setting_of t near lines) t.points
-tried st t near lines around a h =
-    let k : (b : List ℕ) × StandFor near b t.points = assigned st t near lines around t.points h.on_front a.in_range in
-    record { assignment = k.0; stands = k.1; fits = all_met st t near lines around k.0 k.1 a h }
+pub tried : (st : State) (t : Attempt) (near : List NearPoint) (lines : List (ℕ × ℕ)) (scope : Scope) → IsAround st t.frame scope near lines → AreLookedAt scope t.points → IsAllowed st t → FitsFront st t → IsTried (setting_of t near lines) t.points
+tried st t near lines scope around looked a h =
+    let k : (b : List ℕ) × StandFor near b t.points = assigned st t near lines scope around t.points looked h.on_front a.in_range in
+    record { assignment = k.0; stands = k.1; fits = all_met st t near lines scope around k.0 k.1 looked a h }

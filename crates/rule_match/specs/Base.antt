@@ -21,6 +21,7 @@ use Rattle.rule_maps.specs.Places.{mapping}
 use Rattle.free_zone.specs.Zone.{IsZone, zone_of}
 use Rattle.free_zone.specs.InTheWay as way
 use Rattle.free_zone.specs.InTheWay.{HasNoPoint, HasNoLine}
+use Rattle.rule_match.specs.declared.around.Scope.{Scope}
 use Rattle.rule_match.specs.declared.near.NearPoint.{NearPoint}
 use Rattle.rule_match.specs.Candidate.{Attempt, nth, made}
 use Rattle.rule_match.specs.Applied.{numbers_from, are_new, do_differ}
@@ -32,6 +33,7 @@ pub record BaseLine : Type 0 where
   pub line : ℕ × ℕ × ℕ
   pub class : ℕ
   pub frame : LocalFrame
+  pub scope : Scope
   pub near : List NearPoint
   pub lines : List (ℕ × ℕ)
   pub noting : Bool
@@ -40,7 +42,7 @@ pub record IsBaseLine (b : BaseLine) : Type 0 where
   pub front : IsFrontState b.front
   pub on_front : Contains b.front.lines b.line
   pub framed : IsFrame b.frame
-  pub surrounded : IsSurrounding (state_of b.front) b.frame b.near b.lines
+  pub surrounded : IsSurrounding (state_of b.front) b.frame b.scope b.near b.lines
   pub class_least : 1 ≤ b.class
   pub class_greatest : b.class ≤ 16
 

@@ -10,7 +10,7 @@ pub mod Best
 pub mod Refused
 -- Walk: what a search promises.
 pub mod Walk
--- Fitting: which first points of an assignment may go on. Trying: the tests of a rule's points. Around: that near points and lines are those of the front.
+-- Fitting: which first points of an assignment may go on. Trying: the tests of a rule's points. Around: that near points and lines are those of the front, of all points or of a few.
 pub mod Fitting
 pub mod Trying
 pub mod Around

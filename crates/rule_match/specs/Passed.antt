@@ -9,6 +9,8 @@
 -- AreExcusedSoFar  where nothing is found, the notes hold the reasons of all attempts by these rules
 -- IsSoFar        both
 -- IsPassedAgain, IsAgainSoFar   the same of the assignments that map a fresh point
+-- IsEnough       what maps a fresh point maps points alone that are looked at
+-- AreShort, DoFewSuffice, HoldsFew   when the line's ends and the fresh points are enough
 use Rattle.std.specs.Prelude.{◌≡◌, ℕ, ◌-◌, ◌≤◌, ◌<◌, List, length, true, Option, None, Some, slice_get}
 use Rattle.rule_reader.specs.declared.rule.Rule.{Rule}
 use Rattle.rule_maps.specs.Inert.{IsLive}
@@ -18,12 +20,15 @@ use Rattle.rule_match.specs.declared.found.Found.{Found}
 use Rattle.rule_match.specs.declared.progress.Progress.{Progress}
 use Rattle.rule_match.specs.Order.{IsNoWorse}
 use Rattle.rule_match.specs.Candidate.{Attempt, IsCandidate}
-use Rattle.rule_match.specs.Least.{rank}
+use Rattle.rule_match.specs.Least.{IsOf, rank}
 use Rattle.std.specs.List.{Any, Contains}
+use Rattle.rule_match.specs.declared.around.Scope.{Scope}
 use Rattle.rule_match.specs.declared.near.NearPoint.{NearPoint}
 use Rattle.rule_match.specs.Walk.{IsAdvance, IsFresh, HoldsFresh}
 use Rattle.rule_match.specs.Fitting.{fits_so_far}
 use Rattle.rule_match.specs.Trying.{near_at, ties}
+use Rattle.rule_match.specs.Around.{AreLookedAt}
+use Rattle.size_field.specs.Size.{SizeField}
 use Rattle.rule_match.specs.Refused.{IsAllowed, FitsFront, IsExcused}
 use Rattle.rule_match.specs.Noted.{HasExcuse}
 use Rattle.rule_match.specs.Base.{BaseLine, Tried, attempt_of, setting_at}
@@ -77,15 +82,15 @@ IsFindIfAny b rules (Some found) = IsFind b rules found
 -- what is found is the least of the candidates on the base line by the first k rules
 pub record IsLeastSoFar (b : BaseLine) (rules : List Rule) (k : ℕ) (best : Option Found) : Type 0 where
   pub found : IsFindIfAny b rules best
-  pub least : (t : Attempt) → IsOn b rules t → t.rule ≤ k → IsCandidate (state_at b) t
-      → IsNoWorse best (Some (rank (state_at b) t))
+  pub least : (t : Attempt) → IsOn b rules t → t.rule ≤ k → AreLookedAt b.scope t.points
+      → IsCandidate (state_at b) t → IsNoWorse best (Some (rank (state_at b) t))
 
 -- where nothing is found and notes are made, they hold the reason of each allowed attempt on the base line by the first k
 -- rules that fits the front and maps points that are asked for
 pub record AreExcusedSoFar (b : BaseLine) (rules : List Rule) (k : ℕ) (Asked : List ℕ → Type 0) (p : Progress) : Type 0 where
   pub excused : p.best ≡ None → b.noting ≡ true → (t : Attempt) → IsOn b rules t → t.rule ≤ k
-      → Asked t.points → IsAllowed (state_at b) t → FitsFront (state_at b) t
-      → IsExcused (state_at b) p.notes.items t
+      → AreLookedAt b.scope t.points → Asked t.points → IsAllowed (state_at b) t
+      → FitsFront (state_at b) t → IsExcused (state_at b) p.notes.items t
 
 -- all attempts are asked for
 abbrev pub AllAsked : List ℕ → Type 0
@@ -117,6 +122,30 @@ IsFreshFindIfAny b rules fresh (Some found) = IsFind b rules found × MapsOne fr
 pub record IsAgainSoFar (b : BaseLine) (rules : List Rule) (k : ℕ) (fresh : List ℕ) (p : Progress) : Type 0 where
   pub found : IsFreshFindIfAny b rules fresh p.best
   pub excused : AreExcusedSoFar b rules k (MapsOne fresh) p
+
+-- each allowed attempt of the line at the class that maps a fresh point maps points alone that are looked at
+abbrev pub IsEnough : SizeField → State → List Rule → ℕ → ℕ → List ℕ → Scope → Type 0
+IsEnough sizes st rules line class fresh scope = (t : Attempt) → IsOf sizes st rules line class t
+    → IsAllowed st t → MapsOne fresh t.points → AreLookedAt scope t.points
+
+-- none of the first k rules that may apply at the class maps more than three points
+abbrev pub AreShort : ℕ → List Rule → ℕ → Type 0
+AreShort class rules k = (number : ℕ) → number < k → (rule : Rule)
+    → slice_get rules number ≡ Some rule → IsLive rule → rule.quality ≤ class
+    → length rule.points ≤ 3
+
+-- no end of the line is fresh, and no rule that may apply maps more than three points: so what maps a fresh point maps it and the ends alone
+pub record DoFewSuffice (class : ℕ) (rules : List Rule) (ends : ℕ × ℕ) (fresh : List ℕ) : Type 0 where
+  pub stale_from : ¬ (Contains fresh ends.0)
+  pub stale_to : ¬ (Contains fresh ends.1)
+  pub short : AreShort class rules (length rules)
+
+-- few suffice, and these hold the line's ends and the fresh points
+pub record HoldsFew (class : ℕ) (rules : List Rule) (ends : ℕ × ℕ) (fresh these : List ℕ) : Type 0 where
+  pub few : DoFewSuffice class rules ends fresh
+  pub holds_from : Contains these ends.0
+  pub holds_to : Contains these ends.1
+  pub holds_fresh : (n : ℕ) → Contains fresh n → Contains these n
 
 -- the near points whose numbers are fresh are those at these positions
 pub record AreFreshAt (near : List NearPoint) (fresh positions : List ℕ) : Type 0 where

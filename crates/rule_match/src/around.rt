@@ -1,7 +1,8 @@
 //! The surroundings of a base line on a front: the front points in range, and the front lines that begin
 //! at them.
 //!
-//! 1. Only lines whose boxes meet the box of all points in range are looked at.
+//! 1. Only lines whose boxes meet the box of all points in range are looked at. Where a few points alone
+//!    are asked for, only those whose boxes hold one of these.
 //! 2. Each front point is the start of a line, and of several where parts of the front touch. So the
 //!    starts are sorted, and each is taken once.
 
@@ -15,7 +16,7 @@ ghost use Rattle.rule_maps.specs.Frame.{IsInRange};
 ghost use Rattle.state_law.specs.State.{IsListed, point_at};
 ghost use Rattle.front_chain.specs.Front.{line_at, state_of};
 ghost use Rattle.admission.specs.Around.{IsInBounds};
-ghost use Rattle.rule_match.specs.Around.{IsSurrounding, near_of, IsStartNear, HasStartsNear, IsAdded};
+ghost use Rattle.rule_match.specs.Around.{IsSurrounding, near_of, IsStartNear, HasStartsNear, HasLinesOf, IsMore, IsAdded};
 
 use super::near::NearPoint;
 use front_chain::Front;
@@ -27,9 +28,18 @@ use std::alloc::{AllocError, Global};
 /// greatest length.
 const FARTHEST: u64 = 4 * LONGEST;
 
-/// The front points in range of a base line, and the front lines that begin at them.
+/// The points that are looked at: all, or these alone.
+#[derive(Debug, Drop)]
+pub struct Scope {
+    pub whole: bool,
+    pub these: Vec<u64>,
+}
+
+/// Front points in range of a base line, and front lines that begin at them; of the points of the scope
+/// none is left out.
 #[derive(Debug, Drop)]
 pub(crate) struct Surroundings {
+    pub scope: Scope,
     pub near: Vec<NearPoint>,
     pub lines: Vec<(u64, u64)>,
 }
@@ -94,20 +104,98 @@ fn add_line(
     Ok(())
 }
 
-/// The front lines that begin in range.
-fn lines_around(alloc: Global, front: &Front, frame: &Frame) -> Result<Vec<(u64, u64)>, AllocError>
-    ensures only { IfOk result
-        (λ v. All (IsStartNear (state_of front.now) frame.now) v.items) }
-    ensures all { IfOk result (λ v. HasStartsNear (state_of front.now) frame.now v.items) }
+/// Adds the front lines that begin in range, of those whose boxes meet the box.
+fn add_lines(
+    alloc: Global,
+    lines: &mut Vec<(u64, u64)>,
+    front: &Front,
+    frame: &Frame,
+    near: &Bounds,
+) -> Result<(), AllocError>
+    ensures more { OnOk result (IsMore front.now frame.now lines.old.items lines.new.items) }
+    ensures all { OnOk result ((n : ℕ) → IsInBounds near.now (point_at front.now.points n) →
+        HasLinesOf front.now frame.now lines.new.items n) }
 {
     let _lines = front.lines();
-    let near = range_box(frame);
-    let numbers = front.near_lines(alloc, &near)?;
-    let mut lines = Vec::new(alloc);
+    let numbers = front.near_lines(alloc, near)?;
     for number in &numbers {
-        add_line(&mut lines, front, frame, *number)?;
+        add_line(lines, front, frame, *number)?;
+    }
+    Ok(())
+}
+
+/// Adds the front lines that begin at the point with the number, if it is a front point in range.
+fn add_lines_of(
+    alloc: Global,
+    lines: &mut Vec<(u64, u64)>,
+    front: &Front,
+    frame: &Frame,
+    number: u64,
+) -> Result<(), AllocError>
+    ensures more { OnOk result (IsMore front.now frame.now lines.old.items lines.new.items) }
+    ensures all { OnOk result (HasLinesOf front.now frame.now lines.new.items number) }
+{
+    let _points = front.points();
+    if !front.is_front_point(number) {
+        return Ok(());
+    }
+    let at = front.point(number);
+    if !frame.is_in_range(at) {
+        return Ok(());
+    }
+    add_lines(alloc, lines, front, frame, &Bounds { lo: at, hi: at })?;
+    Ok(())
+}
+
+/// The front lines that begin in range.
+fn lines_in_range(
+    alloc: Global,
+    front: &Front,
+    frame: &Frame,
+) -> Result<Vec<(u64, u64)>, AllocError>
+    ensures only { IfOk result
+        (λ v. All (IsStartNear (state_of front.now) frame.now) v.items) }
+    ensures all { IfOk result (λ v. (n : ℕ) → HasLinesOf front.now frame.now v.items n) }
+{
+    let mut lines = Vec::new(alloc);
+    add_lines(alloc, &mut lines, front, frame, &range_box(frame))?;
+    Ok(lines)
+}
+
+/// The front lines that begin at these points and in range; and others that begin in range.
+fn lines_of_these(
+    alloc: Global,
+    front: &Front,
+    frame: &Frame,
+    these: &[u64],
+) -> Result<Vec<(u64, u64)>, AllocError>
+    ensures only { IfOk result
+        (λ v. All (IsStartNear (state_of front.now) frame.now) v.items) }
+    ensures all { IfOk result (λ v. (n : ℕ) → Contains these.now n →
+        HasLinesOf front.now frame.now v.items n) }
+{
+    let mut lines = Vec::new(alloc);
+    for number in these {
+        add_lines_of(alloc, &mut lines, front, frame, *number)?;
     }
     Ok(lines)
+}
+
+/// The front lines that begin in range, at points of the scope; and others that begin in range.
+fn lines_around(
+    alloc: Global,
+    front: &Front,
+    frame: &Frame,
+    scope: &Scope,
+) -> Result<Vec<(u64, u64)>, AllocError>
+    ensures only { IfOk result
+        (λ v. All (IsStartNear (state_of front.now) frame.now) v.items) }
+    ensures all { IfOk result (λ v. HasStartsNear (state_of front.now) frame.now scope.now v.items) }
+{
+    if scope.whole {
+        return lines_in_range(alloc, front, frame);
+    }
+    lines_of_these(alloc, front, frame, &scope.these)
 }
 
 /// The starts of the lines, each once, rising.
@@ -162,18 +250,20 @@ fn near_points(
     Ok(near)
 }
 
-/// The surroundings of a base line.
+/// The surroundings of a base line, as far as they are of the scope.
 pub(crate) fn surroundings_of(
     alloc: Global,
     front: &Front,
     frame: &Frame,
+    scope: Scope,
 ) -> Result<Surroundings, AllocError>
-    ensures { IfOk result
-        (λ a. IsSurrounding (state_of front.now) frame.now a.near.items a.lines.items) }
+    ensures surrounding { IfOk result
+        (λ a. IsSurrounding (state_of front.now) frame.now a.scope a.near.items a.lines.items) }
+    ensures scope { IfOk result (λ a. a.scope ≡ scope) }
 {
     let _points = front.points();
-    let lines = lines_around(alloc, front, frame)?;
+    let lines = lines_around(alloc, front, frame, &scope)?;
     let starts = starts_of(alloc, &lines)?;
     let near = near_points(alloc, front, frame, &starts)?;
-    Ok(Surroundings { near, lines })
+    Ok(Surroundings { scope, near, lines })
 }

@@ -10,7 +10,7 @@ ghost use Rattle.rule_match.specs.Candidate.{IsFrontPair};
 ghost use Rattle.rule_match.specs.Trying.{near_at};
 ghost use Rattle.rule_match.specs.Base.{IsBaseLine, IsFramed, IsBaseOf, numbers_at};
 
-use super::around::{Surroundings, surroundings_of};
+use super::around::{Scope, Surroundings, surroundings_of};
 use super::assignment::Assignment;
 use super::few_points::FewPoints;
 use super::near::NearPoint;
@@ -45,6 +45,7 @@ impl<'a> Model for Base<'a> {
       line = (b.line, b.from, b.to);
       class = b.class;
       frame = b.frame;
+      scope = b.around.scope;
       near = b.around.near.items;
       lines = b.around.lines.items;
       noting = b.noting;
@@ -56,6 +57,7 @@ impl<'a> Model for Base<'a> {
           line = (b.line, b.from, b.to);
           class = b.class;
           frame = b.frame;
+          scope = b.around.scope;
           near = b.around.near.items;
           lines = b.around.lines.items;
           noting = b.noting;
@@ -97,27 +99,29 @@ pub(crate) fn frame_of(front: &Front, sizes: &Sizes, from: u64, to: u64) -> Fram
 }
 
 impl<'a> Base<'a> {
-    /// The front line with the number, at a class; and whether the search is to note why assignments
-    /// fail.
+    /// The front line with the number, at a class; which points are looked at; and whether the search is
+    /// to note why assignments fail.
     pub(crate) fn new(
         alloc: Global,
         front: &'a Front,
         sizes: &Sizes,
         line: u64,
         class: u32,
+        scope: Scope,
         noting: bool,
     ) -> Result<Base<'a>, AllocError>
         requires on_front { is_some (line_at front.now.lines line) ≡ true }
         requires class_least { 1 ≤ class }
         requires class_greatest { class ≤ 16 }
         ensures base { IfOk result (λ b. IsBaseOf sizes.now front.now line class b) }
+        ensures scope { IfOk result (λ b. b.scope ≡ scope) }
         ensures noting { IfOk result (λ b. b.noting ≡ noting) }
     {
         let _points = front.points();
         let (from, to) = front.line(line).unwrap();
         let frame = frame_of(front, sizes, from, to);
         let _start = frame.p1();
-        let around = surroundings_of(alloc, front, &frame)?;
+        let around = surroundings_of(alloc, front, &frame, scope)?;
         Ok(Base {
             front,
             line,

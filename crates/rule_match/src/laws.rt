@@ -24,7 +24,8 @@ ghost use Rattle.rule_match.specs.LookedAgain.{AreFresh, DoStand, IsGluedOn, IsU
 ghost use Rattle.rule_match.specs.Walk.{BeginsWith};
 ghost use Rattle.rule_match.specs.declared.near.NearPoint.{NearPoint as NearOne};
 ghost use Rattle.rule_match.specs.Trying.{Setting, ties};
-ghost use Rattle.rule_match.specs.Around.{IsAround, setting_of, IsTried};
+ghost use Rattle.rule_match.specs.declared.around.Scope.{Scope};
+ghost use Rattle.rule_match.specs.Around.{IsAround, AreLookedAt, setting_of, IsTried};
 ghost use Rattle.rule_match.specs.Fitting.{Tie, fits_so_far, in_order, IsOrder, renumbered, DoesFit};
 
 /// All places of a candidate lie in the reach of its line. So where a later state of a domain is alike
@@ -152,6 +153,7 @@ pub fn law_order()
 pub fn law_tried()
     ensures starts { (s : Setting) → fits_so_far (ties s) [] ≡ true }
     ensures met { (st : State) (t : Attempt) (near : List NearOne) (lines : List (ℕ × ℕ)) →
-        IsAround st t.frame near lines → IsCandidate st t →
+        (scope : Scope) → IsAround st t.frame scope near lines →
+        AreLookedAt scope t.points → IsCandidate st t →
         IsTried (setting_of t near lines) t.points }
 {}

@@ -20,6 +20,7 @@ ghost use Rattle.rule_match.specs.Refused.{IsRefusedBy};
 ghost use Rattle.rule_match.specs.Walk.{BeginsWith};
 
 use super::application::Application;
+use super::around::Scope;
 use super::base::Base;
 use super::few_points::FewPoints;
 use super::found::Found;
@@ -169,7 +170,11 @@ fn search_line(
     if !some_may_apply(rules, class) {
         return Ok(None);
     }
-    let base = Base::new(alloc, front, sizes, line, class, noting)?;
+    let whole = Scope {
+        whole: true,
+        these: Vec::new(alloc),
+    };
+    let base = Base::new(alloc, front, sizes, line, class, whole, noting)?;
     pass_rules(alloc, &base, rules, progress)?;
     match &progress.best {
         None => Ok(None),

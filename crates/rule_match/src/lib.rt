@@ -13,6 +13,8 @@
 //! 6. A search may note why assignments fail: front lines, each beside a mapped point. An assignment
 //!    that no front line hinders fails by its places alone, or by what no application undoes. `best`
 //!    makes no notes, `best_noted` makes them.
+//! 7. `again` tries a refused line by the assignments that map given points. Of rules of three points
+//!    these map the line's ends and one given point, so no other point is gathered.
 
 mod application;
 mod around;

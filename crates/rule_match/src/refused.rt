@@ -4,13 +4,16 @@
 //!    front line that was noted left: such a candidate maps a new point, or one that was noted beside
 //!    the line.
 //! 2. So only assignments that map one of these points are passed, and the notes grow by their reasons.
+//! 3. Of a rule that maps three points such an assignment maps the line's ends and the fresh point. Where
+//!    no rule maps more, nothing else is gathered.
 
 ghost use Rattle.std.specs.Prelude.{◌≡◌, ◌≤◌, ◌-◌, ℕ, List, length, true, false, IsSome, None, IfOk, OnOk, OnErr};
 ghost use Rattle.front_chain.specs.Front.{line_at, state_of};
 ghost use Rattle.rule_match.specs.Walk.{BeginsWith};
 ghost use Rattle.rule_match.specs.Refused.{HasNoneAgain, HasOneAgain, IsRefusedAgain};
-ghost use Rattle.rule_match.specs.Passed.{AreFreshAt, IsAgainSoFar};
+ghost use Rattle.rule_match.specs.Passed.{AreFreshAt, AreShort, DoFewSuffice, HoldsFew, IsAgainSoFar};
 
+use super::around::Scope;
 use super::base::Base;
 use super::least::may_apply;
 use super::progress::{Note, Progress};
@@ -80,6 +83,55 @@ fn pass_rules_again(
     Ok(())
 }
 
+/// Whether no rule that may apply at the class maps more than three points.
+fn are_short(rules: &RuleSet<'_>, class: u32) -> bool
+    ensures { result ≡ true → AreShort class rules.now (length rules.now) }
+{
+    for position in 0..rules.count() {
+        let rule = rules.get(position + 1);
+        if may_apply(rule, class) && rule.rule().points.as_slice().len() > 3 {
+            return false;
+        }
+    }
+    true
+}
+
+/// Whether an attempt on a line that maps a fresh point maps it and the line's ends alone: no end is fresh,
+/// and no rule that may apply maps more than three points.
+fn do_few_suffice(rules: &RuleSet<'_>, class: u32, ends: (u64, u64), fresh: &[u64]) -> bool
+    ensures { result ≡ true → DoFewSuffice class rules.now ends fresh.now }
+{
+    if fresh.contains(&ends.0) || fresh.contains(&ends.1) {
+        return false;
+    }
+    are_short(rules, class)
+}
+
+/// The points that attempts on a line may map that map a fresh point: the line's ends and the fresh points
+/// alone, where few suffice; else all.
+fn scope_of(
+    alloc: Global,
+    rules: &RuleSet<'_>,
+    class: u32,
+    ends: (u64, u64),
+    fresh: &[u64],
+) -> Result<Scope, AllocError>
+    ensures { IfOk result (λ s. s.whole ≡ false →
+        HoldsFew class rules.now ends fresh.now s.these.items) }
+{
+    let mut these = Vec::new(alloc);
+    if !do_few_suffice(rules, class, ends, fresh) {
+        return Ok(Scope { whole: true, these });
+    }
+    these.push(ends.0)?;
+    these.push(ends.1)?;
+    these.extend_from_slice(fresh)?;
+    Ok(Scope {
+        whole: false,
+        these,
+    })
+}
+
 /// Whether the line has a candidate at the class, of those that map one of the fresh points. Where it
 /// has none, the notes hold the reasons of these attempts. After want of memory they are as before.
 ///
@@ -108,7 +160,9 @@ pub fn again(
     ensures unchanged { OnErr result (notes.new.items ≡ notes.old.items) }
 {
     let _points = front.points();
-    let base = Base::new(alloc, front, sizes, line, class, true)?;
+    let ends = front.line(line).unwrap();
+    let scope = scope_of(alloc, rules, class, ends, fresh)?;
+    let base = Base::new(alloc, front, sizes, line, class, scope, true)?;
     let mut progress = Progress {
         best: None,
         notes: Vec::new(alloc),

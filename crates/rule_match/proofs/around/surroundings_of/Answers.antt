@@ -19,7 +19,7 @@ near_points-requires-clause-range c = subst (All (λ n. IsInRange c.args.frame.n
     (starts_near c.args.front.now c.args.frame.now c.in_ok-lines.lines.items c.in_ok-starts.starts.items c.points-points.ensures.holds c.in_ok-lines.ensures.only
     (subst (λ (ls : List (ℕ × ℕ)). (n : ℕ) → Contains c.in_ok-starts.starts.items n ↔ Contains (map (λ (line : ℕ × ℕ). line.0) ls) n) c.deref.ensures.value c.in_ok-starts.ensures.starts)))
 
-pub returns : goal.returns
-returns c = surrounds c.args.front.now c.args.frame.now c.in_ok-lines.lines.items c.in_ok-starts.starts.items c.in_ok-near.near.items c.points-points.ensures.holds c.in_ok-lines.ensures.only c.in_ok-lines.ensures.all c.in_ok-starts.ensures.rising
+pub returns-clause-surrounding : goal.returns-clause-surrounding
+returns-clause-surrounding c = surrounds c.args.front.now c.args.frame.now c.in_ok-lines.lines.items c.in_ok-starts.starts.items c.in_ok-near.near.items c.args.scope c.points-points.ensures.holds c.in_ok-lines.ensures.only c.in_ok-lines.ensures.all c.in_ok-starts.ensures.rising
     (subst (λ (ls : List (ℕ × ℕ)). (n : ℕ) → Contains c.in_ok-starts.starts.items n ↔ Contains (map (λ (line : ℕ × ℕ). line.0) ls) n) c.deref.ensures.value c.in_ok-starts.ensures.starts)
     (c.in_ok-near.ensures.value ∙ ap (map (near_of c.args.front.now.points c.args.frame.now)) c.deref-2.ensures.value)

@@ -7,4 +7,4 @@ pub returns-clause-starts : goal.returns-clause-starts
 returns-clause-starts c = starts
 
 pub returns-clause-met : goal.returns-clause-met
-returns-clause-met c = λ st t near lines around is. tried st t near lines around (allowed st t is) (on_its_front st t is)
+returns-clause-met c = λ st t near lines scope around looked is. tried st t near lines scope around looked (allowed st t is) (on_its_front st t is)

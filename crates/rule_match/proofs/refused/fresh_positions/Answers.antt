@@ -11,7 +11,7 @@ use Rattle.rule_match.proofs.refused.fresh_positions.Goals as goal
 use Rattle.rule_match.proofs.refused.fresh_positions.Goals.{then-contains+in_ok-push, else-contains}
 
 pub point_near-number-requires : goal.point_near-number-requires
-point_near-number-requires c = subst (All (λ n. IsOnGrid n.at)) (sym c.near-near.ensures.value) (near_on (state_of c.args.base.now.front) c.args.base.now.frame c.args.base.now.near c.args.base.now.lines c.near-near.ensures.base.surrounded)
+point_near-number-requires c = subst (All (λ n. IsOnGrid n.at)) (sym c.near-near.ensures.value) (near_on (state_of c.args.base.now.front) c.args.base.now.frame c.args.base.now.scope c.args.base.now.near c.args.base.now.lines c.near-near.ensures.base.surrounded)
 
 pub loop-k-init : goal.loop-k-init
 loop-k-init c = record {

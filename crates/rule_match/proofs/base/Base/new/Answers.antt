@@ -11,7 +11,7 @@ invariant_of-result c = record {
   front = c.points-points.ensures.holds;
   on_front = line_there c.args.front.now.lines c.args.line c.unwrap-from.result (sym c.line.ensures ∙ c.unwrap-from.ensures);
   framed = c.p1-start.ensures.frame;
-  surrounded = c.in_ok-around.ensures;
+  surrounded = c.in_ok-around.ensures.surrounding;
   class_least = c.requires.class_least;
   class_greatest = c.requires.class_greatest;
 }
@@ -22,7 +22,7 @@ returns-clause-base c = record {
     front = c.points-points.ensures.holds;
     on_front = line_there c.args.front.now.lines c.args.line c.unwrap-from.result (sym c.line.ensures ∙ c.unwrap-from.ensures);
     framed = c.p1-start.ensures.frame;
-    surrounded = c.in_ok-around.ensures;
+    surrounded = c.in_ok-around.ensures.surrounding;
     class_least = c.requires.class_least;
     class_greatest = c.requires.class_greatest;
   };

@@ -6,4 +6,4 @@ use Rattle.rule_match.proofs.BaseLines.{near_on}
 use Rattle.rule_match.proofs.base.Base.numbers.Goals as goal
 
 pub point_near-requires : goal.point_near-requires
-point_near-requires c = subst (All (λ n. IsOnGrid n.at)) (sym c.near-near.ensures.value) (near_on (state_of c.args.self.now.front) c.args.self.now.frame c.args.self.now.near c.args.self.now.lines c.near-near.ensures.base.surrounded)
+point_near-requires c = subst (All (λ n. IsOnGrid n.at)) (sym c.near-near.ensures.value) (near_on (state_of c.args.self.now.front) c.args.self.now.frame c.args.self.now.scope c.args.self.now.near c.args.self.now.lines c.near-near.ensures.base.surrounded)

@@ -1,5 +1,0 @@
-use Rattle.rule_match.proofs.Gathered.{IsUnderWay}
-use Rattle.rule_match.proofs.around.lines_around.Given as goal
-
-abbrev pub invariant-loop-number : goal.invariant-loop-number
-invariant-loop-number l = IsUnderWay l.front l.frame l.lines.items l.number-items l.number-index
