@@ -1,6 +1,7 @@
 // The domains of elements, and whether elements are positively turned.
 ghost use Rattle.std.specs.Prelude.{◌≡◌, ◌↔◌, length, All, Any, IsTrue, IfOk, IfSome, IfNone};
 ghost use Rattle.grid_geom.specs.Bounds.{IsOnGrid};
+ghost use Rattle.grid_geom.specs.Polygon.{IsStrictlyConvex};
 ghost use Rattle.state_law.specs.State.{IsListed, corners_of};
 ghost use Rattle.geom_check.specs.Refused.{IsFirstFailing};
 ghost use Rattle.mesh_check.specs.Whole.{HasDomainOf, IsTurned};
@@ -45,6 +46,21 @@ pub fn polygon(alloc: Global, points: &[Point], corners: &[u64]) -> Result<Vec<P
     Ok(polygon)
 }
 
+/// Whether the corners of an element are strictly convex. Those of a triangle take no memory.
+fn is_turned(alloc: Global, points: &[Point], corners: &[u64]) -> Result<bool, OutOfMemory>
+    requires listed { All (IsListed (length points.now)) corners.now }
+    requires on_grid { All IsOnGrid points.now }
+    ensures { IfOk result (λ turned.
+        IsTrue turned ↔ IsStrictlyConvex (corners_of points.now corners.now)) }
+{
+    if let [a, b, c] = corners {
+        let triangle = [place(points, *a), place(points, *b), place(points, *c)];
+        return Ok(strictly_convex(&triangle));
+    }
+    let polygon = polygon(alloc, points, corners)?;
+    Ok(strictly_convex(&polygon))
+}
+
 /// The number, from 1, of the first element that is not positively turned.
 pub fn first_not_turned(
     alloc: Global,
@@ -58,8 +74,7 @@ pub fn first_not_turned(
     ensures none { IfOk result (λ found. IfNone found (All (IsTurned points.now) elements.now)) }
 {
     for (i, element) in elements.iter().enumerate() {
-        let corners = polygon(alloc, points, element.corners.as_slice())?;
-        if !strictly_convex(&corners) {
+        if !is_turned(alloc, points, element.corners.as_slice())? {
             return Ok(Some(i as u64 + 1));
         }
     }
