@@ -1,9 +1,8 @@
 -- The fronts of the tests: the sides of strictly convex polygons are openings.
 use lib.IntN.{pos}
 use lib.Signed.{◌<ℤ◌, ◌≤ℤ◌}
-use Prim.Native.Nat.{ℕ, zero, suc, ◌+◌, ◌*◌, ◌-◌, ◌^◌, ◌≤◌, ◌<◌}
+use Prim.Native.Nat.{ℕ, ◌+◌, ◌*◌, ◌-◌, ◌^◌, ◌≤◌}
 use mathlib.Core.Path.{refl}
-use mathlib.Core.Logic.{◌≢◌}
 use mathlib.Core.List.{List, [], ◌∷◌, map}
 use native.Mathlib.Omega.{arith}
 use Rattle.std.proofs.lemmas.Int.{ints}
@@ -14,7 +13,7 @@ use Rattle.grid_geom.specs.Area.{shoelace}
 use Rattle.grid_geom.specs.declared.TheConstants.{GRID}
 use Rattle.grid_geom.specs.Bounds.{IsOnGrid, IsWithin}
 use Rattle.grid_geom.specs.Plane.{orient}
-use Rattle.grid_geom.specs.Polygon.{sides, corner_at, after, IsStrictlyConvex}
+use Rattle.grid_geom.specs.Polygon.{sides, IsStrictlyConvex}
 use Rattle.grid_geom.proofs.Convex.{triangle_convex}
 use Rattle.state_law.specs.State.{IsNumbered, pair_edge}
 use Rattle.state_law.specs.Worked.{place}

@@ -65,3 +65,45 @@ pub fn triangle(alloc: Global) -> Result<Front, OutOfMemory> {
         &[(1, 2), (2, 3), (3, 1)],
     )
 }
+
+/// The front of a square of three units of 64000 with a hole of one unit in its middle.
+pub fn ring(alloc: Global) -> Result<Front, OutOfMemory> {
+    Front::open(
+        alloc,
+        &[
+            Point { x: 0, y: 0 },
+            Point { x: 192_000, y: 0 },
+            Point {
+                x: 192_000,
+                y: 192_000,
+            },
+            Point { x: 0, y: 192_000 },
+            Point {
+                x: 64_000,
+                y: 64_000,
+            },
+            Point {
+                x: 128_000,
+                y: 64_000,
+            },
+            Point {
+                x: 128_000,
+                y: 128_000,
+            },
+            Point {
+                x: 64_000,
+                y: 128_000,
+            },
+        ],
+        &[
+            (1, 2),
+            (2, 3),
+            (3, 4),
+            (4, 1),
+            (6, 5),
+            (7, 6),
+            (8, 7),
+            (5, 8),
+        ],
+    )
+}

@@ -5,9 +5,17 @@
 #![tactic(auto)]
 
 #[cfg(test)]
+mod compared;
+#[cfg(test)]
+mod enumeration;
+#[cfg(test)]
 mod fronts;
 #[cfg(test)]
+mod gluing;
+#[cfg(test)]
 mod least;
+#[cfg(test)]
+mod places;
 #[cfg(test)]
 mod reading;
 #[cfg(test)]

@@ -1,10 +1,7 @@
 // Worked by hand: the zone of one rule on the line from (0, 0) to (640000, 0), and three fronts on that line.
 
-ghost use Rattle.std.specs.Prelude.{◌↔◌, IsTrue};
-ghost use Rattle.std.specs.List.{All};
-ghost use Rattle.rule_maps.specs.Frame.{IsInRange};
-
 use crate::fronts::{high, low, square};
+use crate::places::all_in_range;
 use crate::reading::read;
 use free_zone::{Blocker, Zone};
 use front_chain::Front;
@@ -29,13 +26,6 @@ endrule
 
 /// The ends of the line.
 const ENDS: [Point; 2] = [Point { x: 0, y: 0 }, Point { x: 640_000, y: 0 }];
-
-/// Whether all points are in range.
-fn all_in_range(f: &Frame, points: &[Point]) -> bool
-    ensures { IsTrue result ↔ All (IsInRange f.now) points.now }
-{
-    points.iter().all(|p| f.is_in_range(*p))
-}
 
 /// The zone at class 10.
 fn zone(alloc: Global, rule: &Compiled<'_>) -> Result<Zone, Fail> {
