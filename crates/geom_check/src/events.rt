@@ -34,7 +34,7 @@ fn up(riser: &Riser) -> u64
     (riser.b.y - riser.a.y) as u64
 }
 
-/// The slope `across` / `up`, in parts of which two make up the least difference of two slopes.
+/// The slope `across` / `up`, in parts of which one is the least difference of two slopes.
 fn lean(across: u64, up: u64) -> u128
     requires positive { 0 < up }
     requires small { across ≤ 2 * WIDTH * up }

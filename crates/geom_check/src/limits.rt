@@ -39,8 +39,9 @@ pub const MOST_COMMON: u128 = 2 * MOST_UNDER as u128 * MOST_UNDER as u128;
 /// A bound of its numerators, counted from the lower left corner of the grid.
 pub const MOST_ACROSS: u128 = 2 * MOST_OVER as u128 * MOST_UNDER as u128;
 
-/// Two different slopes of segments differ by at least 1 / `WIDTH`^2, which is two of these parts.
-pub const LEAN_PARTS: u128 = 2 * WIDTH as u128 * WIDTH as u128;
+/// Two different slopes of segments differ by at least 1 / `WIDTH`^2, which is one of these parts: so
+/// rounded downwards to whole parts they differ still.
+pub const LEAN_PARTS: u128 = WIDTH as u128 * WIDTH as u128;
 
 /// How many slopes there are, in these parts: from -`WIDTH` to `WIDTH`.
 pub const LEANS: u128 = 2 * WIDTH as u128 * LEAN_PARTS + 1;

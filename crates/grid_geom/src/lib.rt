@@ -63,6 +63,3 @@ pub struct Edge {
     pub a: Point,
     pub b: Point,
 }
-
-#[cfg(test)]
-mod tests;

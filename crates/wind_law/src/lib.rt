@@ -9,6 +9,3 @@ pub use balance::closed;
 pub use crossings::{crossing, winding};
 pub use grid_geom::Edge;
 pub use std::alloc::AllocError as OutOfMemory;
-
-#[cfg(test)]
-mod tests;

@@ -3,7 +3,10 @@ ghost use Rattle.std.specs.Prelude.{◌<◌};
 ghost use Rattle.std.specs.List.{All};
 ghost use Rattle.grid_geom.specs.Bounds.{IsOnGrid};
 
-use super::*;
+use grid_geom::{
+    Point, RatPoint, apart, double_area, in_open, isqrt, on_grid, on_open, orient, orient_rat,
+    round_div, segments_meet, strictly_convex, tangle,
+};
 use std::process::Abort;
 
 const G: i64 = 1_048_576;

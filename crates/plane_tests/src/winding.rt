@@ -2,9 +2,9 @@
 ghost use Rattle.grid_geom.specs.Bounds.{IsOnGrid};
 ghost use Rattle.wind_law.specs.Grid.{AreOnGrid};
 
-use super::{Edge, closed, winding};
-use grid_geom::{GREATEST_DENOMINATOR, GREATEST_NUMERATOR, GRID, Point, RatPoint};
+use grid_geom::{Edge, GREATEST_DENOMINATOR, GREATEST_NUMERATOR, GRID, Point, RatPoint};
 use std::test::Fail;
+use wind_law::{closed, winding};
 
 /// The sides of a triangle of grid points.
 fn triangle(a: Point, b: Point, c: Point) -> [Edge; 3]
