@@ -1,12 +1,13 @@
 -- The log that is written of a run is read again: its words are a log, and say what was written.
 -- Each word has one white byte beside it: in a line before it, and of lines one after another behind it.
 use Rattle.std.proofs.Common.{◌≡◌, ℕ, zero, suc, ◌+◌, ◌<◌, ◌≤◌, true, false, List, [], ◌∷◌, ◌++◌, length, Some, refl, sym, ap, subst, append_assoc, length-append, arith}
-use Rattle.std.specs.Prelude.{ℤ, pos, negsuc, codes}
+use Rattle.std.specs.Prelude.{ℤ, pos, negsuc, codes, unsigned_abs}
 use Rattle.std.specs.Fmt.{decimal, signed_decimal}
 use Rattle.std.specs.List.{flat_map, AllByRecursion}
 use Rattle.std.proofs.lemmas.List.{append-nil}
 use Rattle.std.proofs.lemmas.Int.{ints}
 use Rattle.grid_geom.specs.declared.Point.{Point}
+use Rattle.grid_geom.specs.declared.TheConstants.{GRID, LONGEST}
 use Rattle.grid_geom.specs.Bounds.{IsOnGrid, IsWithin}
 use Rattle.text_rows.specs.Rows.{spaced}
 use Rattle.word_scan.specs.Parts.{IsRun}
@@ -93,15 +94,15 @@ counted_words most form text xs few fits p = then (number 0 most) (λ n. many n 
 
 -- ---- points
 
-on_grid : (z : ℤ) → IsWithin (pos 1048576) z → IsSigned 1048576 1048576 z
+on_grid : (z : ℤ) → IsWithin GRID z → IsSigned (unsigned_abs GRID) (unsigned_abs GRID) z
 on_grid (pos n) r = let low = r.least in let high = r.greatest in omega (arith, ints)
 on_grid (negsuc n) r = let low = r.least in let high = r.greatest in omega (arith, ints)
 
 place_prints : (p : Point) → IsOnGrid p → Prints before place (place_words p) p
 unfolding place
 place_prints p on =
-    then (signed 1048576 1048576) (λ x. signed 1048576 1048576 >>= λ y. Says (record { x = x; y = y })) p.x p (signed_word 1048576 1048576 p.x (omega arith) (omega arith) (on_grid p.x on.x_within))
-    (then (signed 1048576 1048576) (λ y. Says (record { x = p.x; y = y })) p.y p (signed_word 1048576 1048576 p.y (omega arith) (omega arith) (on_grid p.y on.y_within)) (says before p))
+    then (signed (unsigned_abs GRID) (unsigned_abs GRID)) (λ x. signed (unsigned_abs GRID) (unsigned_abs GRID) >>= λ y. Says (record { x = x; y = y })) p.x p (signed_word (unsigned_abs GRID) (unsigned_abs GRID) p.x (omega arith) (omega arith) (on_grid p.x on.x_within))
+    (then (signed (unsigned_abs GRID) (unsigned_abs GRID)) (λ y. Says (record { x = p.x; y = y })) p.y p (signed_word (unsigned_abs GRID) (unsigned_abs GRID) p.y (omega arith) (omega arith) (on_grid p.y on.y_within)) (says before p))
 
 fixed_run : (w : Word) → 0 < length w → plain_bytes w ≡ true → IsRun w
 fixed_run w some plain = run_of w some plain
@@ -289,7 +290,7 @@ options_print : (o : Options) → OptionsInRange o → Prints before options (sp
 unfolding options limit_need
 options_print o r =
     subst (λ (t : List ℕ). Prints before options t o) (options_group (32 ∷ decimal o.greatest) (32 ∷ decimal o.grading) (32 ∷ decimal o.last) (32 ∷ limit_word o.limit))
-    (then (number 1 2097152) _ o.greatest o (number_word 1 2097152 o.greatest (omega arith) r.greatest)
+    (then (number 1 LONGEST) _ o.greatest o (number_word 1 LONGEST o.greatest (omega arith) r.greatest)
     (then (number 0 10000) _ o.grading o (number_word 0 10000 o.grading (omega arith) (record { low = omega arith; high = r.grading }))
     (then (number 1 16) _ o.last o (number_word 1 16 o.last (omega arith) r.last)
     (then (word limit_need) _ o.limit o (spaced_word limit_need (limit_word o.limit) o.limit (limit_run o.limit r.limit) (limit_says o.limit r.limit))

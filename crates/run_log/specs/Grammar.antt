@@ -6,9 +6,10 @@
 -- Reads                  these words are a log, and say this
 -- Refuses                the first word that can't stand where it stands is refused so
 -- one word after another is written by ◌>>=◌ of Form
-use Rattle.std.specs.Prelude.{ℕ, zero, suc, ◌+◌, Bool, true, false, List, [], ◌∷◌, ◌++◌, length, codes}
+use Rattle.std.specs.Prelude.{ℕ, zero, suc, ◌+◌, Bool, true, false, List, [], ◌∷◌, ◌++◌, length, codes, unsigned_abs}
 use Rattle.std.specs.List.{flat_map}
 use Rattle.grid_geom.specs.declared.Point.{Point}
+use Rattle.grid_geom.specs.declared.TheConstants.{GRID, LONGEST}
 use Rattle.rule_match.specs.declared.application.Application.{Application}
 use Rattle.mesh_run.specs.declared.Options.{Options}
 use Rattle.mesh_run.specs.declared.domain_run.DomainRun.{DomainRun}
@@ -27,8 +28,8 @@ counted most form = do
 -- the coordinates of a point, on the grid
 unfoldable pub place : Form Point
 place = do
-  x ← signed 1048576 1048576
-  y ← signed 1048576 1048576
+  x ← signed (unsigned_abs GRID) (unsigned_abs GRID)
+  y ← signed (unsigned_abs GRID) (unsigned_abs GRID)
   Says (record { x = x; y = y })
 
 -- p X Y
@@ -130,7 +131,7 @@ domains (suc room) before = do
 -- run SHIFT GREATEST GRADING CLASS STEPS
 unfoldable pub options : Form Options
 options = do
-  greatest ← number 1 2097152
+  greatest ← number 1 LONGEST
   grading ← number 0 10000
   last ← number 1 16
   most ← limit

@@ -6,6 +6,7 @@
 -- log_of              what the log of a run says
 use Rattle.std.specs.Prelude.{◌≡◌, ℕ, ◌+◌, ◌≤◌, List, [], ◌∷◌, length, Option, Some, None}
 use Rattle.std.specs.List.{AllByRecursion}
+use Rattle.grid_geom.specs.declared.TheConstants.{LONGEST}
 use Rattle.grid_geom.specs.Bounds.{IsOnGrid}
 use Rattle.rule_match.specs.declared.application.Application.{Application}
 use Rattle.vol_format.specs.Text.{IsFrom}
@@ -24,7 +25,7 @@ IsLimit None = Unit {0}
 IsLimit (Some n) = n ≤ 1000000000000
 
 pub record OptionsInRange (o : Options) : Type 0 where
-  pub greatest : IsFrom 1 2097152 o.greatest
+  pub greatest : IsFrom 1 LONGEST o.greatest
   pub grading : o.grading ≤ 10000
   pub last : IsFrom 1 16 o.last
   pub limit : IsLimit o.limit

@@ -108,7 +108,11 @@ impl Row for PointNumbers {
     }
 }
 
-/// So many of a kind, one after another.
+/// The greatest count of a list for which room is taken at once.
+const SHORT: u64 = 16;
+
+/// So many of a kind, one after another. Room is taken for a short list at once, and for what a longer
+/// one has beyond that as it is read, never by its count.
 pub fn many<R: Row>(
     alloc: Global,
     reader: &mut Reader<'_>,
@@ -118,7 +122,7 @@ pub fn many<R: Row>(
     ensures read { Gives result reader.new (read (many count (R.form points)) reader.old) }
     ensures count { IfOk result (λ items. length items ≡ count) }
 {
-    let mut items = Vec::new(alloc);
+    let mut items = Vec::with_capacity(alloc, count.min(SHORT) as usize)?;
     while (items.len() as u64) < count {
         items.push(R::read(alloc, reader, points)?)?;
     }

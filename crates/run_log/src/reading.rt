@@ -12,18 +12,16 @@ use crate::log::Log;
 use crate::reader::Reader;
 use crate::refusal::LogRefusal;
 use crate::runs::domains;
+use grid_geom::LONGEST;
 use mesh_run::Options;
 use std::alloc::Global;
-
-/// The greatest size that a log may name: the width of the grid.
-const GREATEST_SIZE: u64 = 2_097_152;
 
 /// The options that the run was made with.
 #[tactic(auto, unfolding(crate::specs::Grammar::options, crate::specs::Reading::read))]
 fn options(reader: &mut Reader<'_>) -> Result<Options, LogRefusal>
     ensures { Gives result reader.new (read options reader.old) }
 {
-    let greatest = reader.number(1, GREATEST_SIZE)?;
+    let greatest = reader.number(1, LONGEST)?;
     let grading = reader.number(0, 10_000)? as u32;
     let last = reader.number(1, 16)? as u32;
     let limit = reader.limit()?;

@@ -8,10 +8,10 @@ ghost use Rattle.run_log.specs.Numbers.{point};
 use crate::reader::Reader;
 use crate::refusal::LogRefusal;
 use crate::words::GREATEST_WHOLE;
-use grid_geom::Point;
+use grid_geom::{GRID, Point};
 
 /// How far a coordinate may be from 0.
-const GRID: u32 = 1_048_576;
+const FARTHEST: u32 = GRID as u32;
 
 /// The number of one of so many points.
 #[tactic(auto, unfolding(crate::specs::Reading::read))]
@@ -27,8 +27,8 @@ pub fn point(reader: &mut Reader<'_>, points: u64) -> Result<u64, LogRefusal>
 pub fn place(reader: &mut Reader<'_>) -> Result<Point, LogRefusal>
     ensures { Gives result reader.new (read place reader.old) }
 {
-    let x = reader.signed(GRID, GRID)?;
-    let y = reader.signed(GRID, GRID)?;
+    let x = reader.signed(FARTHEST, FARTHEST)?;
+    let y = reader.signed(FARTHEST, FARTHEST)?;
     Ok(Point {
         x: i64::from(x),
         y: i64::from(y),

@@ -1,6 +1,6 @@
 //! The lines of a front that is glued by sides alone.
 
-ghost use Rattle.std.specs.Prelude.{◌≡◌, ◌+◌, ◌∷◌, ◌++◌, [], false, drop, IfOk, IfSome, IfNone, OnOk, OnErr};
+ghost use Rattle.std.specs.Prelude.{◌≡◌, ◌+◌, ◌∷◌, ◌++◌, [], false, drop, IfOk, IfSome, IfNone, IsTrue, OnOk, OnErr};
 ghost use Rattle.state_law.specs.State.{glue_line, next_after};
 ghost use Rattle.indexmap.specs.IndexMap.{get};
 ghost use Rattle.run_log.specs.Table.{Lines, queued};
@@ -19,7 +19,7 @@ pub struct Ends {
 }
 
 /// Takes the least number that is kept under these ends.
-fn take_least(kept: &mut IndexMap<Ends, VecDeque<u64>>, side: Ends) -> Option<u64>
+fn pop_least(kept: &mut IndexMap<Ends, VecDeque<u64>>, side: Ends) -> Option<u64>
     ensures least { IfSome result (λ n. queued (get ends.eq kept.old side) ≡ n ∷ queued (get ends.eq kept.new side)) }
     ensures none { IfNone result (queued (get ends.eq kept.old side) ≡ []) }
     ensures none_new { IfNone result (queued (get ends.eq kept.new side) ≡ []) }
@@ -30,6 +30,40 @@ fn take_least(kept: &mut IndexMap<Ends, VecDeque<u64>>, side: Ends) -> Option<u6
         Some(numbers) => numbers.pop_front(),
         None => None,
     }
+}
+
+/// Whether a list without a number is kept under these ends.
+fn is_spent(kept: &IndexMap<Ends, VecDeque<u64>>, side: Ends) -> bool
+    ensures { IsTrue result → queued (get ends.eq kept.now side) ≡ [] }
+{
+    match kept.get(&side) {
+        Some(numbers) => numbers.is_empty(),
+        None => false,
+    }
+}
+
+/// Gives the room back that these ends take, where no number is kept under them.
+fn let_go(kept: &mut IndexMap<Ends, VecDeque<u64>>, side: Ends)
+    ensures same { queued (get ends.eq kept.new side) ≡ queued (get ends.eq kept.old side) }
+    ensures others { (t : Ends) → ends.eq side t ≡ false
+        → queued (get ends.eq kept.new t) ≡ queued (get ends.eq kept.old t) }
+{
+    if is_spent(kept, side) {
+        kept.swap_remove(&side);
+    }
+}
+
+/// Takes the least number that is kept under these ends, and with the last one what room they took.
+fn take_least(kept: &mut IndexMap<Ends, VecDeque<u64>>, side: Ends) -> Option<u64>
+    ensures least { IfSome result (λ n. queued (get ends.eq kept.old side) ≡ n ∷ queued (get ends.eq kept.new side)) }
+    ensures none { IfNone result (queued (get ends.eq kept.old side) ≡ []) }
+    ensures none_new { IfNone result (queued (get ends.eq kept.new side) ≡ []) }
+    ensures others { (t : Ends) → ends.eq side t ≡ false
+        → queued (get ends.eq kept.new t) ≡ queued (get ends.eq kept.old t) }
+{
+    let least = pop_least(kept, side);
+    let_go(kept, side);
+    least
 }
 
 /// Keeps a number under these ends, behind those that are there.

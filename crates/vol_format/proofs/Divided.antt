@@ -8,6 +8,7 @@ use Rattle.std.proofs.lemmas.Int.{ints, to_z-of_z}
 use Rattle.std.specs.Int.{w64}
 use Rattle.std.proofs.Common.{to_z, of_z, SFits}
 use Rattle.word_scan.specs.declared.decimals.Dec.{Dec}
+use Rattle.grid_geom.specs.declared.TheConstants.{GRID}
 use Rattle.vol_format.specs.Text.{tens}
 use Rattle.vol_format.specs.Reading.{divided, steps_of}
 
@@ -16,14 +17,14 @@ and_false true b e = e
 and_false false b e = refl
 
 -- more than the greatest many steps
-too_far : (up greatest : ℕ) → greatest ≤ 1048576 → 100000000000 ≤ up → divided greatest up 15625 ≡ None
+too_far : (up greatest : ℕ) → greatest ≤ unsigned_abs GRID → 1000000000000 ≤ up → divided greatest up 15625 ≡ None
 too_far up greatest small far =
     let past : greatest < up / 15625 = omega arith in
     rw (and_false (up % 15625 == 0) (nat_le (up / 15625) greatest) (lt-leb _ _ past)) refl
 
-pub raised_too_far : (size power greatest : ℕ) → (size ≡ 0 → ⊥) → greatest ≤ 1048576 → (10 < power) ⊎ (100000000000 ≤ size) → divided greatest (size * 10 ^ power) 15625 ≡ None
+pub raised_too_far : (size power greatest : ℕ) → (size ≡ 0 → ⊥) → greatest ≤ unsigned_abs GRID → (11 < power) ⊎ (1000000000000 ≤ size) → divided greatest (size * 10 ^ power) 15625 ≡ None
 raised_too_far size power greatest some small (inl high) =
-    let many : 10 ^ 11 ≤ 10 ^ power = pow-le-pow_right {n = 10} (omega arith) high in
+    let many : 10 ^ 12 ≤ 10 ^ power = pow-le-pow_right {n = 10} (omega arith) high in
     let one : 1 * 10 ^ power ≤ size * 10 ^ power = mul-le-mul_right (10 ^ power) (omega (arith, some)) in
     too_far (size * 10 ^ power) greatest small (omega (arith, many, one))
 raised_too_far size power greatest some small (inr high) =

@@ -82,10 +82,10 @@ edge_whole e r =
 pub edge_row : IsRow edge_form edge_items EdgeInRange
 edge_row = record { sound = edge_sound; whole = edge_whole }
 
-within : (x : ℤ) → unsigned_abs x ≤ 1048576 → IsWithin GRID x
+within : (x : ℤ) → unsigned_abs x ≤ unsigned_abs GRID → IsWithin GRID x
 within x le = record { least = omega (arith, ints); greatest = omega (arith, ints) }
 
-pub at_most : (x : ℤ) → IsWithin GRID x → unsigned_abs x ≤ 1048576
+pub at_most : (x : ℤ) → IsWithin GRID x → unsigned_abs x ≤ unsigned_abs GRID
 at_most x w = let low = w.least in let high = w.greatest in omega (arith, ints)
 
 nought : (x : ℤ) → unsigned_abs x ≤ 0 → x ≡ pos 0

@@ -17,6 +17,7 @@ use Rattle.word_scan.specs.Decimals.{decimal_of, sign_of, DecimalParts, IsDecima
 use Rattle.word_scan.proofs.DecimalLaws.{decimal_read, all_digits_both}
 use Rattle.word_scan.proofs.PlainWords.{plain_byte, plain_bytes, run_of, plain_both, plain_digits, plain_sign}
 use Rattle.word_scan.proofs.NumberTexts.{Digits, digits_of, signed_again, sign_short}
+use Rattle.grid_geom.specs.declared.TheConstants.{GRID}
 use Rattle.vol_format.specs.Text.{Number, Coordinate, Role, tens, Says}
 use Rattle.vol_format.specs.Vol.{coordinate}
 
@@ -64,21 +65,21 @@ spelled z k =
     ∙ ap (λ (t : List ℕ). t ++ (decimal (n / 10 ^ k) ++ fraction n k)) (sign_is z)
     ∙ sym (append_assoc (minus_text (is_negative z)) (decimal (n / 10 ^ k)) (fraction n k))
 
-front_small : (n k : ℕ) → n < 10 ^ 11 → n / 10 ^ k < 10 ^ 11
+front_small : (n k : ℕ) → n < 10 ^ 12 → n / 10 ^ k < 10 ^ 12
 front_small n k small =
     let one : 1 * (n / 10 ^ k) ≤ 10 ^ k * (n / 10 ^ k) = mul-le-mul_right (n / 10 ^ k) (one-le-pow k 10 (omega arith)) in
     omega (arith, one, mul-div-le n (10 ^ k), small)
 
-front_digits : (z : ℤ) (k : ℕ) → unsigned_abs z < 10 ^ 11 → Digits (unsigned_abs z / 10 ^ k) (decimal (unsigned_abs z / 10 ^ k)) 11
-front_digits z k small = digits_of (unsigned_abs z / 10 ^ k) 11 (omega arith) (omega arith) (front_small (unsigned_abs z) k small)
+front_digits : (z : ℤ) (k : ℕ) → unsigned_abs z < 10 ^ 12 → Digits (unsigned_abs z / 10 ^ k) (decimal (unsigned_abs z / 10 ^ k)) 12
+front_digits z k small = digits_of (unsigned_abs z / 10 ^ k) 12 (omega arith) (omega arith) (front_small (unsigned_abs z) k small)
 
-fixed_short : (z : ℤ) (k : ℕ) → k ≤ 14 → unsigned_abs z < 10 ^ 11 → length (fixed z k) ≤ 40
+fixed_short : (z : ℤ) (k : ℕ) → k ≤ 14 → unsigned_abs z < 10 ^ 12 → length (fixed z k) ≤ 40
 fixed_short z k few small =
     let n = unsigned_abs z in
     let d = front_digits z k small in
     omega (arith, length-append (minus_text (is_negative z) ++ decimal (n / 10 ^ k)) (fraction n k), length-append (minus_text (is_negative z)) (decimal (n / 10 ^ k)), d.few, point_short n k, few, sign_short z, ap length (sign_is z))
 
-is_decimal : (z : ℤ) (k : ℕ) → k ≤ 14 → unsigned_abs z < 10 ^ 11 → IsDecimal (parts_of z k)
+is_decimal : (z : ℤ) (k : ℕ) → k ≤ 14 → unsigned_abs z < 10 ^ 12 → IsDecimal (parts_of z k)
 is_decimal z k few small =
     let n = unsigned_abs z in
     let d = front_digits z k small in
@@ -94,7 +95,7 @@ is_decimal z k few small =
       scale = subst (λ (j : ℕ). unsigned_abs (pos 0 -ℤ pos j) ≤ 99) (sym long) scale;
     }
 
-fixed_read : (z : ℤ) (k : ℕ) → k ≤ 14 → unsigned_abs z < 10 ^ 11 → decimal_of (fixed z k) ≡ Some (record { digits = z; scale = pos 0 -ℤ pos k })
+fixed_read : (z : ℤ) (k : ℕ) → k ≤ 14 → unsigned_abs z < 10 ^ 12 → decimal_of (fixed z k) ≡ Some (record { digits = z; scale = pos 0 -ℤ pos k })
 fixed_read z k few small =
     let n = unsigned_abs z in
     let wide : n < 10 ^ 64 = omega (arith, small) in
@@ -104,19 +105,19 @@ fixed_read z k few small =
     let same : value (parts_of z k) ≡ record { digits = z; scale = pos 0 -ℤ pos k } = ap (λ (v : ℤ). record { digits = v; scale = pos 0 -ℤ pos (length (fraction_digits (point_part n k))) }) digits ∙ ap (λ (j : ℕ). record { digits = z; scale = pos 0 -ℤ pos j }) long in
     ap decimal_of (sym (spelled z k)) ∙ decimal_read (parts_of z k) (is_decimal z k few small) ∙ ap (λ (d : Dec). Some d) same
 
-pub coordinate_says : (k : ℕ) (x : ℤ) → k ≤ 14 → unsigned_abs x ≤ 1048576 → Says k (coordinate k x) (Coordinate x)
+pub coordinate_says : (k : ℕ) (x : ℤ) → k ≤ 14 → unsigned_abs x ≤ unsigned_abs GRID → Says k (coordinate k x) (Coordinate x)
 coordinate_says k x few small =
     let z = x *ℤ pos 15625 in
-    let size : unsigned_abs z < 10 ^ 11 = omega (arith, unsigned_abs-mul x (pos 15625), small) in
+    let size : unsigned_abs z < 10 ^ 12 = omega (arith, unsigned_abs-mul x (pos 15625), small) in
     let none : (pos 0 -ℤ pos k) +ℤ pos k ≡ pos 0 = omega (arith, ints) in
     let place : z *ℤ pos (tens (pos 0)) ≡ x *ℤ pos (15625 * tens (neg_ℤ (pos 0))) = omega (arith, ints) in
     (record { digits = z; scale = pos 0 -ℤ pos k }, fixed_read z k few size, subst (λ (s : ℤ). z *ℤ pos (tens s) ≡ x *ℤ pos (15625 * tens (neg_ℤ s))) (sym none) place)
 
-pub coordinate_run : (k : ℕ) (x : ℤ) → k ≤ 14 → unsigned_abs x ≤ 1048576 → IsRun (coordinate k x)
+pub coordinate_run : (k : ℕ) (x : ℤ) → k ≤ 14 → unsigned_abs x ≤ unsigned_abs GRID → IsRun (coordinate k x)
 coordinate_run k x few small =
     let z = x *ℤ pos 15625 in
     let n = unsigned_abs z in
-    let size : n < 10 ^ 11 = omega (arith, unsigned_abs-mul x (pos 15625), small) in
+    let size : n < 10 ^ 12 = omega (arith, unsigned_abs-mul x (pos 15625), small) in
     let d = front_digits z k size in
     let sign : plain_bytes (minus_text (is_negative z)) ≡ true = ap plain_bytes (sym (sign_is z)) ∙ plain_sign (sign_of z) in
     run_of (fixed z k) (omega (arith, length-append (minus_text (is_negative z) ++ decimal (n / 10 ^ k)) (fraction n k), length-append (minus_text (is_negative z)) (decimal (n / 10 ^ k)), d.some))

@@ -1,9 +1,10 @@
 -- Each front of a mesh's text goes on to a text.
 use Rattle.std.proofs.Common.{◌≡◌, ℕ, zero, suc, ◌*◌, ◌≤◌, List, [], ◌∷◌, ◌++◌, Some, refl, sym, ap, ◌∙◌, arith}
-use Rattle.std.specs.Prelude.{ℤ, pos, ◌+ℤ◌, ◌*ℤ◌, neg_ℤ}
+use Rattle.std.specs.Prelude.{ℤ, pos, ◌+ℤ◌, ◌*ℤ◌, neg_ℤ, unsigned_abs}
 use Rattle.std.proofs.Math.IntN.{pos-*ℤ-pos}
 use Rattle.word_scan.specs.Numerals.{IsWhole}
 use Rattle.word_scan.specs.Decimals.{decimal_of}
+use Rattle.grid_geom.specs.declared.TheConstants.{GRID}
 use Rattle.vol_format.specs.Text.{Word, tens, mesh3d, dimension, geomtype, surfaceelements, volumeelements, edgesegmentsgi2, points_word, endmesh}
 use Rattle.vol_format.specs.Reading.{NeedWord, NeedNumber, NeedPoint, NeedCount, NeedPlace, got, Form, Leaf, element_form, edge_form, point_form, rows_behind, counted_rows, elements_form, edges_form, points_form, ending_form}
 use Rattle.vol_format.proofs.Asks.{got_says, says_got}
@@ -116,7 +117,7 @@ good_edge k = (
 
 good_point : (k : ℕ) → Good k point_form
 unfolding point_form
-good_point k = (w0, pos 0, place_in k 1048576, λ x1 u1 e1. (w0, pos 0, place_in k 1048576, λ x2 u2 e2. (w0, pos 0, place_in k 0, λ x3 u3 e3. tt)))
+good_point k = (w0, pos 0, place_in k (unsigned_abs GRID), λ x1 u1 e1. (w0, pos 0, place_in k (unsigned_abs GRID), λ x2 u2 e2. (w0, pos 0, place_in k 0, λ x3 u3 e3. tt)))
 
 good_rows : {X : Type 0} (k : ℕ) (form : Form X) → Good k form → (n : ℕ) (front : List X) → Good k (rows_behind form front n)
 good_rows k form good zero front = tt

@@ -14,6 +14,7 @@ use Rattle.word_scan.specs.declared.decimals.Dec.{Dec}
 use Rattle.word_scan.specs.Numerals.{is_whole, whole_of}
 use Rattle.word_scan.specs.Decimals.{decimal_of, signed}
 use Rattle.grid_geom.specs.declared.Point.{Point}
+use Rattle.grid_geom.specs.declared.TheConstants.{GRID}
 use Rattle.vol_format.specs.declared.EdgeRow.{EdgeRow}
 use Rattle.vol_format.specs.declared.MeshElement.{MeshElement}
 use Rattle.vol_format.specs.declared.Mesh.{Mesh}
@@ -175,8 +176,8 @@ edge_form = do
 
 unfoldable pub point_form : Form Point
 point_form = do
-  x ← place 1048576
-  y ← place 1048576
+  x ← place (unsigned_abs GRID)
+  y ← place (unsigned_abs GRID)
   z ← place 0
   Leaf (record { x = x; y = y })
 

@@ -2,6 +2,7 @@
 
 ghost use Rattle.std.specs.Prelude.{◌≡◌, ◌*◌, ◌^◌, ◌≤◌, ◌<◌, IfSome, pos, ◌+ℤ◌, unsigned_abs};
 ghost use Rattle.word_scan.specs.Decimals.{signed};
+ghost use Rattle.grid_geom.specs.declared.TheConstants.{GRID};
 ghost use Rattle.vol_format.specs.Reading.{divided, steps_of, place_of};
 
 use word_scan::Dec;
@@ -25,15 +26,15 @@ fn divided(up: u128, down: u128, greatest: u64) -> Option<u64>
 
 /// The grid steps of so many units of the last decimal, times ten to the power.
 fn raised(size: u128, power: u64, greatest: u64) -> Option<u64>
-    requires { greatest ≤ 1048576 }
+    requires { greatest ≤ unsigned_abs GRID }
     ensures value { result ≡ divided greatest (size * 10 ^ power) 15625 }
     ensures small { IfSome result (λ steps. steps ≤ greatest) }
 {
     if size == 0 {
         return divided(0, STEP, greatest);
     }
-    // Ten to the power of 11 units are more than the grid has.
-    if power > 10 || size >= 100_000_000_000 {
+    // Ten to the power of 12 units are more than the grid has.
+    if power > 11 || size >= 1_000_000_000_000 {
         return None;
     }
     divided(size * 10u128.pow(power as u32), STEP, greatest)
@@ -72,7 +73,7 @@ fn size_of(d: &Dec) -> u128
 /// The grid steps of a decimal without its sign, where coordinates have so many decimals.
 fn steps(d: &Dec, places: u32, greatest: u64) -> Option<u64>
     requires few { places ≤ 14 }
-    requires small { greatest ≤ 1048576 }
+    requires small { greatest ≤ unsigned_abs GRID }
     ensures value { result ≡ steps_of places greatest d.now }
     ensures small { IfSome result (λ steps. steps ≤ greatest) }
 {
@@ -85,7 +86,7 @@ fn steps(d: &Dec, places: u32, greatest: u64) -> Option<u64>
 }
 
 fn with_sign(negative: bool, steps: u64) -> i64
-    requires { steps ≤ 1048576 }
+    requires { steps ≤ unsigned_abs GRID }
     ensures { result ≡ signed negative steps }
 {
     let steps = steps as i64;
@@ -95,7 +96,7 @@ fn with_sign(negative: bool, steps: u64) -> i64
 /// The coordinate that a decimal is, up to the greatest, where coordinates have so many decimals.
 pub fn place(d: &Dec, places: u32, greatest: u64) -> Option<i64>
     requires few { places ≤ 14 }
-    requires small { greatest ≤ 1048576 }
+    requires small { greatest ≤ unsigned_abs GRID }
     ensures { result ≡ place_of places greatest d.now }
 {
     let steps = steps(d, places, greatest)?;

@@ -1,10 +1,11 @@
 //! Reading one word.
 
-ghost use Rattle.std.specs.Prelude.{◌≡◌, ◌≤◌, option_map, IfSome, IfOk};
+ghost use Rattle.std.specs.Prelude.{◌≡◌, ◌≤◌, option_map, unsigned_abs, IfSome, IfOk};
 ghost use Rattle.std.specs.Str.{bytes_eq};
 ghost use Rattle.word_scan.specs.Scan.{words_of};
 ghost use Rattle.word_scan.specs.Numerals.{whole_of, is_whole};
 ghost use Rattle.word_scan.specs.Decimals.{decimal_of};
+ghost use Rattle.grid_geom.specs.declared.TheConstants.{GRID};
 ghost use Rattle.vol_format.specs.Reading.{NeedWord, NeedNumber, NeedPoint, NeedCount, NeedPlace, asked, asked_at, ended_at, from_least, place_in, Taken, GivesAt, at_start};
 
 use crate::coordinate;
@@ -61,7 +62,7 @@ fn is_whole(word: &[u8]) -> bool
 /// The coordinate that a word writes, up to the greatest, where coordinates have so many decimals.
 fn place_in(word: &[u8], places: u32, greatest: u64) -> Option<i64>
     requires few { places ≤ 14 }
-    requires small { greatest ≤ 1048576 }
+    requires small { greatest ≤ unsigned_abs GRID }
     ensures { result ≡ place_in places greatest (decimal_of word.now) }
 {
     match decimal(word) {
@@ -160,7 +161,7 @@ impl<'a> Reader<'a> {
     /// A coordinate up to the greatest.
     #[tactic(auto, unfolding(crate::specs::Reading::asked))]
     pub fn place(&mut self, greatest: u64) -> Result<i64, VolRefusal>
-        requires { greatest ≤ 1048576 }
+        requires { greatest ≤ unsigned_abs GRID }
         ensures { GivesAt (λ x. x) result self.new (asked (NeedPlace greatest) self.old) }
     {
         let at = self.at;

@@ -9,7 +9,7 @@ pub returns-in_err-read-clause-read : goal.returns-in_err-read-clause-read
 returns-in_err-read-clause-read g c =
     let items = c.loop-alloc.items.items in
     let form = g.R.Row.form c.args.points in
-    let p = err_from_is_err_and c.from_residual.result c.from_residual.ensures.1 in
+    let p = err_from_is_err_and c.from_residual-in_err-read.result c.from_residual-in_err-read.ensures.1 in
     rw (p.1, p.2) (many_fail c.in_err-read.field-0.0 form (c.args.count - length items) (c.args.count - (length items + 1)) c.loop-alloc.reader items (read (many c.args.count form) c.args.reader.now) (omega (arith, c.len.ensures, c.loop-alloc-test.true)) c.in_err-read.ensures c.loop-alloc.invariant.1)
 
 pub loop-alloc-preserved : goal.loop-alloc-preserved
