@@ -10,6 +10,7 @@
 -- SliceParts: a slice as its first item and the rest.
 -- SideCounts: how often sides stand in lists.
 -- Paired: keys of sides in pairs.
+-- Shelved: keys put into empty places.
 -- Numbered: sides by numbers and by places.
 -- Domains: domains are above 0; what the search for a difference answers.
 -- Seen: lists as the check sees them.
@@ -29,6 +30,7 @@ pub mod OpenSides
 pub mod SliceParts
 pub mod SideCounts
 pub mod Paired
+pub mod Shelved
 pub mod Numbered
 pub mod Domains
 pub mod Seen

@@ -1,6 +1,6 @@
 -- Keys of sides in pairs: where the sorted keys of sides are pairs, each side stands as often as its turn.
 --
--- No key is 0, so in a list that is paired none is 1, and each side has room. Sides with room are told apart by their
+-- No key is 0, and where none is 1 each side has room. Sides with room are told apart by their
 -- keys, so each stands as often as its key; and the keys of a side and of its turn are an even number and the next one.
 use Rattle.std.proofs.Common.{◌≡◌, ◌≢◌, ℕ, ◌+◌, ◌*◌, ◌<◌, nat_eq, nat_lt, Bool, true, false, ◌&&◌, cond, List, [], ◌∷◌, ◌++◌, map, inl, inr, refl, sym, ◌∙◌, ap, subst, arith}
 use lib.IntN.{pos, ◌-ℤ◌}
@@ -15,7 +15,7 @@ use Rattle.mesh_check.specs.Balance.{turned, same_side, side_count, net_of}
 use Rattle.mesh_check.specs.Keys.{has_room, packed, key_of, times, ArePaired}
 use Rattle.mesh_check.proofs.SideCounts.{same_sound, count_both, count_turned}
 
-times_permuted : (k : ℕ) (ns ms : List ℕ) → IsPermutation ns ms → times k ms ≡ times k ns
+pub times_permuted : (k : ℕ) (ns ms : List ℕ) → IsPermutation ns ms → times k ms ≡ times k ns
 times_permuted k ns ms p = is_sum ms ∙ sum_by-IsPermutation (λ n. cond (nat_eq n k) 1 0) ns ms p ∙ sym (is_sum ns)
   where
     is_sum : (ns : List ℕ) → times k ns ≡ sum_by (λ n. cond (nat_eq n k) 1 0) ns
@@ -164,26 +164,36 @@ turn_alike s ks paired h = elim (cases_order s.from s.to) [
     is_own_turn : (s : Side) → s.from ≡ s.to → s ≡ turned s
     is_own_turn s e = ap (λ (n : ℕ). record { domain = s.domain; from = n; to = s.to }) e ∙ ap (λ (n : ℕ). record { domain = s.domain; from = s.to; to = n }) (sym e)
 
-turns_alike : (ss : List Side) (ks : List ℕ) → IsPermutation (map key_of ss) ks → ArePaired ks → (s : Side) → side_count s ss ≡ side_count (turned s) ss
-turns_alike ss ks p paired s = by_room (has_room s) refl
+positive : (n : ℕ) → nat_eq n 0 ≡ false → 0 < n
+positive n e = grind arith
+
+key_above : (s : Side) → 0 < key_of s
+key_above s = positive (key_of s) (not_none s (has_room s) (nat_lt s.from s.to))
+
+-- the keys ks are those of the sides ss, as far as numbers above 0 go
+turns_alike : (ss : List Side) (ks : List ℕ) → ((k : ℕ) → 0 < k → times k ks ≡ times k (map key_of ss)) → times 1 ks ≡ 0 → ArePaired ks → (s : Side) → side_count s ss ≡ side_count (turned s) ss
+turns_alike ss ks same once paired s = by_room (has_room s) refl
   where
+    one : 0 < 1
+    one = omega arith
+
     none : times 1 (map key_of ss) ≡ 0
-    none = sym (times_permuted 1 (map key_of ss) ks p) ∙ sym (paired 0) ∙ times_permuted 0 (map key_of ss) ks p ∙ never_none ss
+    none = sym (same 1 one) ∙ once
 
     by_room : (b : Bool) → has_room s ≡ b → side_count s ss ≡ side_count (turned s) ss
     by_room true h = let k = room_turned s.domain s.from s.to true h in
-        counted s ss h none ∙ sym (times_permuted (key_of s) (map key_of ss) ks p) ∙ turn_alike s ks paired h
-        ∙ times_permuted (key_of (turned s)) (map key_of ss) ks p ∙ sym (counted (turned s) ss k none)
+        counted s ss h none ∙ sym (same (key_of s) (key_above s)) ∙ turn_alike s ks paired h
+        ∙ same (key_of (turned s)) (key_above (turned s)) ∙ sym (counted (turned s) ss k none)
     by_room false h = uncounted s ss h none ∙ sym (uncounted (turned s) ss (room_turned s.domain s.from s.to false h) none)
 
-keys_of_both : (ss ts : List Side) → map key_of (ss ++ ts) ≡ map key_of ss ++ map key_of ts
+pub keys_of_both : (ss ts : List Side) → map key_of (ss ++ ts) ≡ map key_of ss ++ map key_of ts
 keys_of_both [] ts = refl
 keys_of_both (s ∷ ss) ts = ap (λ (ks : List ℕ). key_of s ∷ ks) (keys_of_both ss ts)
 
 -- where the keys of sides and of others turned are paired, both lists have equal numbers of each side, less its turn
-pub even_nets : (ss ts : List Side) (ks : List ℕ) → IsPermutation (map key_of ss ++ map key_of (map turned ts)) ks → ArePaired ks → (s : Side) → net_of s ss ≡ net_of s ts
-even_nets ss ts ks p paired s = alike (side_count s ss) (side_count (turned s) ss) (side_count s ts) (side_count (turned s) ts)
-    (sym (parts s) ∙ turns_alike (ss ++ map turned ts) ks (subst (λ (ns : List ℕ). IsPermutation ns ks) (sym (keys_of_both ss (map turned ts))) p) paired s ∙ parts (turned s))
+pub even_nets : (ss ts : List Side) (ks : List ℕ) → ((k : ℕ) → 0 < k → times k ks ≡ times k (map key_of ss ++ map key_of (map turned ts))) → times 1 ks ≡ 0 → ArePaired ks → (s : Side) → net_of s ss ≡ net_of s ts
+even_nets ss ts ks same once paired s = alike (side_count s ss) (side_count (turned s) ss) (side_count s ts) (side_count (turned s) ts)
+    (sym (parts s) ∙ turns_alike (ss ++ map turned ts) ks (λ k h. same k h ∙ ap (times k) (sym (keys_of_both ss (map turned ts)))) once paired s ∙ parts (turned s))
   where
     parts : (s : Side) → side_count s (ss ++ map turned ts) ≡ side_count s ss + side_count (turned s) ts
     parts s = count_both s ss (map turned ts) ∙ ap (λ (n : ℕ). side_count s ss + n) (count_turned s ts)

@@ -3,7 +3,8 @@
 -- has_room   the domain and the points' numbers fit into a key
 -- key_of     an even number where the side goes from the lesser point to the greater, and the next number for its turn
 -- times      how often a number stands in a list
-use Rattle.std.specs.Prelude.{◌≡◌, ℕ, ◌+◌, ◌*◌, nat_lt, nat_eq, Bool, ◌&&◌, List, [], ◌∷◌, cond}
+-- AreAdded   a list has some keys more than another
+use Rattle.std.specs.Prelude.{◌≡◌, ℕ, ◌<◌, ◌+◌, ◌*◌, nat_lt, nat_eq, Bool, ◌&&◌, List, [], ◌∷◌, cond}
 use Rattle.mesh_check.specs.declared.sides.Side.{Side}
 
 -- the domain and the numbers of the points fit into a key
@@ -27,3 +28,7 @@ times k (n ∷ ns) = cond (nat_eq n k) 1 0 + times k ns
 -- each even number stands in the list as often as the next one
 abbrev pub ArePaired : List ℕ → Type 0
 ArePaired ns = (n : ℕ) → times (2 * n) ns ≡ times (2 * n + 1) ns
+
+-- the second list has these keys more than the first; 0 is none
+abbrev pub AreAdded : List ℕ → List ℕ → List ℕ → Type 0
+AreAdded ks old new = (k : ℕ) → 0 < k → times k new ≡ times k ks + times k old

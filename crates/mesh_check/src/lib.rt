@@ -3,9 +3,10 @@
 //! 1. A fault is looked for in the order of `Verdict`, and named at its least place.
 //! 2. Points are sorted by their places. Two at one place then stand side by side.
 //! 3. Edge rows are walked along the segments, one after another.
-//! 4. Each side is a number, and that of its turn the next one: where the sorted numbers are in pairs,
-//!    elements and boundaries agree. Else sides are sorted by their domains, starts and ends: where
-//!    elements and boundaries agree, each side stands as often as its turn.
+//! 4. Each side is a number, and that of its turn the next one, on the shelf of its lesser point: where
+//!    the numbers of each shelf, sorted, are in pairs, elements and boundaries agree. Else sides are
+//!    sorted by their domains, starts and ends: where elements and boundaries agree, each side stands as
+//!    often as its turn.
 //! 5. Sides are counted before points are searched for. Where they agree, no corner of an element is in
 //!    an open side but in one that is an edge row (`laws::law_tight`). So where no point is in an edge
 //!    row, only points that are no corners are searched for; else all are.
@@ -14,6 +15,7 @@
 #![tactic(auto)]
 
 mod checking;
+mod counts;
 mod difference;
 mod elements;
 mod hanging;
@@ -21,6 +23,7 @@ mod keys;
 pub mod laws;
 mod near;
 mod rows;
+mod shelves;
 mod sides;
 mod spots;
 mod tight;
