@@ -1,6 +1,6 @@
 // The least candidate of a line by plain enumeration: every rule, every assignment of listed points to its mapped
 // points, each judged by the definition (rule_match/specs/Candidate.antt), and the least kept. It leaves nothing
-// out early, and looks at nothing but the lists of the front.
+// out early. Local places, new points, zones, what is in their way, and gluing are asked of the crates below.
 ghost use Rattle.std.specs.Prelude.{◌≡◌, ◌≤◌, length, true, IsTrue};
 ghost use Rattle.std.specs.List.{All};
 ghost use Rattle.rule_maps.specs.Frame.{IsInRange};

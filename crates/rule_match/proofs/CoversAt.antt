@@ -24,7 +24,7 @@ use Rattle.rule_match.specs.Leeways.{AreLeewaysAt}
 use Rattle.rule_match.specs.Near.{widening, reach_lo, reach_hi, IsCoveredAt, IsCoveredBy}
 use Rattle.rule_match.specs.Refused.{places_of}
 use Rattle.rule_match.proofs.Tolerated.{near_places, no_greater_than_range}
-use Rattle.rule_match.proofs.WithinReach.{maps_of, within_by}
+use Rattle.rule_match.proofs.WithinReach.{maps_of, range_in, within_by}
 
 -- ---- a greater number has a wider box
 record IsBoxIn (lo hi wide_lo wide_hi : Point) : Type 0 where
@@ -67,12 +67,16 @@ wider n m f k l = let w = farther (pos n) (pos m) f.h (omega (arith, ints, (fram
     more a v w l = omega (arith, ints)
 
 pub covers_more_at : (class n m : ℕ) (r : Rule) → n ≤ m → IsCoveredAt class n r → IsCoveredAt class m r
-covers_more_at class n m r l h = record { rule = h.rule; within = λ st t e c frame first last. within_wider (reach_lo n t.frame) (reach_hi n t.frame) (reach_lo m t.frame) (reach_hi m t.frame) _ (wider n m t.frame frame l) (h.within st t e c frame first last) }
+covers_more_at class n m r l h = record {
+  rule = h.rule;
+  mapped_in = λ st t e a frame last. box_in (reach_lo n t.frame) (reach_hi n t.frame) (reach_lo m t.frame) (reach_hi m t.frame) (mapped st t) (wider n m t.frame frame l) (h.mapped_in st t e a frame last);
+  within = λ st t e c frame first last. within_wider (reach_lo n t.frame) (reach_hi n t.frame) (reach_lo m t.frame) (reach_hi m t.frame) _ (wider n m t.frame frame l) (h.within st t e c frame first last);
+}
 
 -- ---- by the leeways of the class
 -- a number that covers the rule with the leeways of the class covers it up to the class
 pub covered_by_leeways : (class n : ℕ) (r : Rule) (leeways : List Leeway) → IsRule r → AreLeewaysAt class r.points leeways → CoversBy leeways r n → IsCoveredAt class n r
-covered_by_leeways class n r leeways rule w covers = record { rule = rule; within = within }
+covered_by_leeways class n r leeways rule w covers = record { rule = rule; mapped_in = λ st t e a frame last. range_in n t.frame (mapped st t) frame covers.least a.in_range; within = within }
   where
     within : (st : State) (t : Attempt) → t.text ≡ r → IsCandidate st t → IsFrame t.frame → 1 ≤ t.class → t.class ≤ class → IsWithinReach (reach_lo n t.frame) (reach_hi n t.frame) (places_of st t)
     within st t e c frame first last = let maps = maps_of st t frame (subst IsRule (sym e) rule) c in

@@ -21,7 +21,7 @@ use Rattle.rule_maps.proofs.Frames.{one_frame}
 use Rattle.rule_maps.specs.Places.{Mapping}
 use Rattle.rule_maps.specs.Reach.{Covers}
 use Rattle.state_law.specs.Free.{IsIn}
-use Rattle.state_law.specs.Saved.{IsCorner}
+use Rattle.state_law.specs.Saved.{AreInBox, IsCorner}
 use Rattle.state_law.specs.Saved as saved
 use Rattle.state_law.specs.State.{State, point_at, pair_edge, front_edges, corners_of, IsListed, IsNumbered}
 use Rattle.state_law.specs.Refusal as refusal
@@ -36,7 +36,7 @@ use Rattle.rule_maps.specs.Inert.{IsLive}
 use Rattle.state_law.specs.Reach.{IsWithinReach}
 use Rattle.rule_match.specs.Refused.{places_of, IsAllowed}
 use Rattle.rule_match.proofs.Places.{allowed, by_places}
-use Rattle.rule_match.proofs.WithinReach.{within_reach}
+use Rattle.rule_match.proofs.WithinReach.{range_in, within_reach}
 
 abbrev Triple : Type 0
 Triple = ℕ × ℕ × ℕ
@@ -282,14 +282,24 @@ near_back n st later more t k h c = back_by n st later more t k.rule (within_rea
 
 -- what covers a rule covers it at each class
 pub covered_at : (class n : ℕ) (r : Rule) → IsCoveredBy n r → IsCoveredAt class n r
-covered_at class n r h = record { rule = h.rule; within = within }
+covered_at class n r h = record { rule = h.rule; mapped_in = mapped_in; within = within }
   where
+    wide : (n : ℕ) → 13 ≤ n → 3 ≤ n
+    wide n l = omega arith
+
+    mapped_in : (st : State) (t : Attempt) → t.text ≡ r → IsAllowed st t → IsFrame t.frame → t.class ≤ class → AreInBox (reach_lo n t.frame) (reach_hi n t.frame) (mapped st t)
+    mapped_in st t e a frame last = range_in n t.frame (mapped st t) frame (wide n (h.covers (subst IsLive e a.live)).least) a.in_range
+
     within : (st : State) (t : Attempt) → t.text ≡ r → IsCandidate st t → IsFrame t.frame → 1 ≤ t.class → t.class ≤ class → IsWithinReach (reach_lo n t.frame) (reach_hi n t.frame) (places_of st t)
     within st t e c frame first last = within_reach n st t first frame (subst IsRule (sym e) h.rule) (subst (λ (x : Rule). Covers x n) (sym e) (h.covers (subst IsLive e c.live))) c
 
 -- a rule of a quality above the class is covered at it by any number
 pub covered_above : (class n : ℕ) (r : Rule) → IsRule r → class < r.quality → IsCoveredAt class n r
-covered_above class n r rule above = record { rule = rule; within = λ st t e c frame first last. absurd (clash class r.quality t.class above last (subst (λ (x : Rule). x.quality ≤ t.class) e c.quality)) }
+covered_above class n r rule above = record {
+  rule = rule;
+  mapped_in = λ st t e a frame last. absurd (clash class r.quality t.class above last (subst (λ (x : Rule). x.quality ≤ t.class) e a.quality));
+  within = λ st t e c frame first last. absurd (clash class r.quality t.class above last (subst (λ (x : Rule). x.quality ≤ t.class) e c.quality));
+}
   where
     clash : (class quality tried : ℕ) → class < quality → tried ≤ class → quality ≤ tried → ⊥
     clash class quality tried a l q = omega arith

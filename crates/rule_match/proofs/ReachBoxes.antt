@@ -1,5 +1,5 @@
 -- The box of a line's reach, cut off at the grid.
-use Rattle.std.proofs.Common.{◌≡◌, ℕ, ◌≤◌, ◌⊎◌, inl, inr, [], ◌∷◌, min, refl, sym, ap, ap₂, ◌∙◌, subst, arith, ℤ, pos, neg_ℤ, ◌+ℤ◌, ◌-ℤ◌, ◌*ℤ◌, ◌<ℤ◌, ◌≤ℤ◌, Some}
+use Rattle.std.proofs.Common.{◌≡◌, ℕ, ◌≤◌, ◌⊎◌, inl, inr, [], ◌∷◌, min, refl, sym, ap, ap₂, ◌∙◌, subst, arith, ℤ, pos, neg_ℤ, ◌+ℤ◌, ◌-ℤ◌, ◌*ℤ◌, ◌<ℤ◌, ◌≤ℤ◌, Some, unsigned_abs}
 use mir.Val.{SFits, to_z}
 use mir.Syntax.{w64, w128}
 use Rattle.std.specs.Int.{int_max, int_min}
@@ -60,9 +60,9 @@ far_by_box sizes st n line box area on r m apart = record {
     by (inr (inr (inr h))) = inr (inr (inr (after area.lo.y (reach_hi n r.frame).y box.hi.y r.above m.first_row h)))
 
 -- ---- what the code computes
--- a height is at least 1, so each number from 1048576 on goes as far as the grid's width
-capped : (n : ℕ) (h : ℤ) → pos 1 ≤ℤ h → int_min (pos 2 *ℤ pos (min n 1048576) *ℤ h +ℤ pos 1) WIDTH ≡ int_min (pos 2 *ℤ pos n *ℤ h +ℤ pos 1) WIDTH
-capped n h l = by (compared n 1048576)
+-- a height is at least 1, so each number from the grid's bound on goes as far as the grid's width
+capped : (n : ℕ) (h : ℤ) → pos 1 ≤ℤ h → int_min (pos 2 *ℤ pos (min n (unsigned_abs GRID)) *ℤ h +ℤ pos 1) WIDTH ≡ int_min (pos 2 *ℤ pos n *ℤ h +ℤ pos 1) WIDTH
+capped n h l = by (compared n (unsigned_abs GRID))
   where
     compared : (a b : ℕ) → (a ≤ b) ⊎ (b ≤ a)
     compared a b = grind arith
@@ -73,19 +73,19 @@ capped n h l = by (compared n 1048576)
     other : (a b : ℕ) → b ≤ a → min a b ≡ b
     other a b k = omega (arith, k)
 
-    grows : (m : ℕ) → 1048576 ≤ m → WIDTH ≤ℤ (pos 2 *ℤ pos m *ℤ h +ℤ pos 1)
+    grows : (m : ℕ) → unsigned_abs GRID ≤ m → WIDTH ≤ℤ (pos 2 *ℤ pos m *ℤ h +ℤ pos 1)
     grows m k = omega (arith, ints, k, nn_mul (pos 2 *ℤ pos m) (h -ℤ pos 1) (omega (arith, ints)) (omega (arith, ints, l)), ring (pos m ∷ h ∷ []) (num (pos 2) ⊗ var 0 ⊗ (var 1 ⊖ num (pos 1))) (num (pos 2) ⊗ var 0 ⊗ var 1 ⊖ num (pos 2) ⊗ var 0) refl)
 
     width : (z : ℤ) → WIDTH ≤ℤ z → int_min z WIDTH ≡ WIDTH
     width z k = omega (arith, ints, clamps)
 
-    by : (n ≤ 1048576) ⊎ (1048576 ≤ n) → int_min (pos 2 *ℤ pos (min n 1048576) *ℤ h +ℤ pos 1) WIDTH ≡ int_min (pos 2 *ℤ pos n *ℤ h +ℤ pos 1) WIDTH
-    by (inl k) = ap (λ (m : ℕ). int_min (pos 2 *ℤ pos m *ℤ h +ℤ pos 1) WIDTH) (least n 1048576 k)
-    by (inr k) = width (pos 2 *ℤ pos (min n 1048576) *ℤ h +ℤ pos 1) (grows (min n 1048576) (omega (arith, other n 1048576 k))) ∙ sym (width (pos 2 *ℤ pos n *ℤ h +ℤ pos 1) (grows n k))
+    by : (n ≤ unsigned_abs GRID) ⊎ (unsigned_abs GRID ≤ n) → int_min (pos 2 *ℤ pos (min n (unsigned_abs GRID)) *ℤ h +ℤ pos 1) WIDTH ≡ int_min (pos 2 *ℤ pos n *ℤ h +ℤ pos 1) WIDTH
+    by (inl k) = ap (λ (m : ℕ). int_min (pos 2 *ℤ pos m *ℤ h +ℤ pos 1) WIDTH) (least n (unsigned_abs GRID) k)
+    by (inr k) = width (pos 2 *ℤ pos (min n (unsigned_abs GRID)) *ℤ h +ℤ pos 1) (grows (min n (unsigned_abs GRID)) (omega (arith, other n (unsigned_abs GRID) k))) ∙ sym (width (pos 2 *ℤ pos n *ℤ h +ℤ pos 1) (grows n k))
 
--- a number, the lesser m of it and 1048576, and the height of a frame
+-- a number, the lesser m of it and the grid's bound, and the height of a frame
 pub record IsCapped (n m : ℕ) (f : LocalFrame) (h : ℤ) : Type 0 where
-  pub lesser : m ≡ min n 1048576
+  pub lesser : m ≡ min n (unsigned_abs GRID)
   pub is_frame : IsFrame f
   pub high : h ≡ f.h
 
@@ -93,14 +93,14 @@ abbrev pub code_product : ℕ → ℤ → ℤ
 code_product m h = cast64 (pos 2 *ℤ to_z w64 m) *ℤ cast64 (cast128 h)
 
 module _ (n m : ℕ) (f : LocalFrame) (h : ℤ) (c : IsCapped n m f h) where
-  small : m ≤ 1048576
+  small : m ≤ unsigned_abs GRID
   small = omega (arith, c.lesser)
 
   height : IsHeight h
   height = subst IsHeight (sym c.high) (frame_bounds f c.is_frame).high
 
-  within : IsWithin (pos 4398046511104) (pos 2 *ℤ pos m *ℤ h)
-  within = within_mul (pos 2097152) (pos 2097152) (pos 2 *ℤ pos m) h (record { least = omega (arith, ints, small); greatest = omega (arith, ints, small) }) (record { least = omega (arith, ints, height.least); greatest = height.greatest })
+  within : IsWithin (WIDTH *ℤ WIDTH) (pos 2 *ℤ pos m *ℤ h)
+  within = within_mul WIDTH WIDTH (pos 2 *ℤ pos m) h (record { least = omega (arith, ints, small); greatest = omega (arith, ints, small) }) (record { least = omega (arith, ints, height.least); greatest = height.greatest })
 
   fits : SFits w64 (pos 2 *ℤ pos m *ℤ h)
   fits = omega (arith, ints, within.least, within.greatest)

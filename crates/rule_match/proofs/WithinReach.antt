@@ -73,6 +73,10 @@ module _ (leeways : List Leeway) (from n : ℕ) (m : Mapping) (h : IsCoveredMapp
 mapped_in : (n : ℕ) (f : LocalFrame) (ps : List Point) → IsFrame f → 3 ≤ n → AllByRecursion (IsInRange f) ps → AllByRecursion (IsBoxed (reach_lo n f) (reach_hi n f)) ps
 mapped_in n f ps h l r = all_map (IsInRange f) (IsBoxed (reach_lo n f) (reach_hi n f)) (λ p i. in_box n f p (mapped_in_reach f n p h l i)) ps r
 
+-- points in range lie in each reach from 3 on
+pub range_in : (n : ℕ) (f : LocalFrame) (ps : List Point) → IsFrame f → 3 ≤ n → AllByRecursion (IsInRange f) ps → AreInBox (reach_lo n f) (reach_hi n f) ps
+range_in n f ps h l r = boxed (reach_lo n f) (reach_hi n f) ps (mapped_in n f ps h l r)
+
 -- the place with a number is one of the list's
 named_in : (P : Point → Type 0) (ps : List Point) (ns : List ℕ) → AllByRecursion P ps → AllByRecursion (Names (length ps)) ns → AllByRecursion P (corners_of ps ns)
 named_in P ps [] h l = tt

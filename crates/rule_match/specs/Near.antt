@@ -22,8 +22,9 @@ use Rattle.rule_maps.specs.Frame.{LocalFrame, IsFrame, IsFrameOf}
 use Rattle.rule_maps.specs.Inert.{IsLive}
 use Rattle.rule_maps.specs.Reach.{Covers}
 use Rattle.size_field.specs.Size.{SizeField, size_at}
-use Rattle.rule_match.specs.Candidate.{Attempt, IsCandidate}
-use Rattle.rule_match.specs.Refused.{places_of}
+use Rattle.rule_match.specs.Candidate.{Attempt, IsCandidate, mapped}
+use Rattle.rule_match.specs.Refused.{places_of, IsAllowed}
+use Rattle.state_law.specs.Saved.{AreInBox}
 use Rattle.state_law.specs.State.{State, point_at, front_edges, IsNumbered}
 use Rattle.state_law.specs.Refusal.{IsFront}
 use Rattle.state_law.specs.Reach.{AreAlikeIn, IsWithinReach}
@@ -65,9 +66,12 @@ pub record IsCoveredBy (n : ℕ) (r : Rule) : Type 0 where
   pub covers : IsLive r → Covers r n
 
 -- the rule is one that a reader gives; and all places of each of its candidates at a class of at most this one lie in the
--- reach of their line by n: mapped points, new points, and the corners of the zone and of the elements
+-- reach of their line by n: mapped points, new points, and the corners of the zone and of the elements. The mapped points lie there
+-- also of attempts that are no candidates, where they are allowed
 pub record IsCoveredAt (class n : ℕ) (r : Rule) : Type 0 where
   pub rule : IsRule r
+  pub mapped_in : (st : State) (t : Attempt) → t.text ≡ r → IsAllowed st t → IsFrame t.frame
+      → t.class ≤ class → AreInBox (reach_lo n t.frame) (reach_hi n t.frame) (mapped st t)
   pub within : (st : State) (t : Attempt) → t.text ≡ r → IsCandidate st t → IsFrame t.frame
       → 1 ≤ t.class → t.class ≤ class
       → IsWithinReach (reach_lo n t.frame) (reach_hi n t.frame) (places_of st t)
