@@ -64,7 +64,14 @@ pub mod Forgotten
 pub mod Noted
 -- Reaches: reaches by class.
 pub mod Reaches
+-- Followed: the state after an application, beside the one before it. Missed: a refused pair that it doesn't touch. StillKept: one that was looked at again.
+pub mod Followed
+pub mod Missed
 pub mod StillRemembered
+pub mod StillKept
+-- LookedAt: what is remembered after looking again. Stale: notes that hold no more.
+pub mod LookedAt
+pub mod Stale
 -- Dues: what is due of a front.
 pub mod Dues
 -- WholeReaches: what meets a region meets the whole reach of its line.

@@ -1,5 +1,7 @@
 -- One more refusal is remembered: the line is on the front, and has a region at the class.
-use Rattle.std.proofs.Common.{◌≡◌, ℕ, ◌+◌, ◌-◌, ◌<◌, ◌≤◌, ◌⊎◌, inl, inr, max, List, slice_index_or, length, sym, ap, ◌∙◌, subst, arith, refl, true, Option, None, Some, is_some, Contains}
+use Rattle.std.proofs.Common.{◌≡◌, ℕ, ◌+◌, ◌-◌, ◌<◌, ◌≤◌, ◌⊎◌, inl, inr, max, List, slice_index_or, length, sym, ◌∙◌, subst, arith, refl, Bool, true, false, Option, None, Some, is_some, Vec, Global, Contains}
+use Rattle.std.specs.BTreeMap.{get, is_at, Updates}
+use Rattle.std.proofs.lemmas.Option.{same_Some}
 use Rattle.grid_geom.specs.declared.Bounds.{Bounds}
 use Rattle.grid_geom.specs.declared.Point.{Point}
 use Rattle.digital_tree.specs.declared.Entry.{Entry}
@@ -8,7 +10,9 @@ use Rattle.digital_tree.specs.Entries.{IsInserted}
 use Rattle.state_law.specs.State.{State}
 use Rattle.size_field.specs.Size.{SizeField}
 use Rattle.front_chain.specs.Front.{FrontState, IsFrontState, state_of, line_at}
+use Rattle.rule_match.specs.declared.progress.Note.{Note}
 use Rattle.rule_match.specs.Least.{HasNone}
+use Rattle.rule_match.specs.Refused.{IsRefusedBy}
 use Rattle.rule_match.specs.Near.{IsReachBox}
 use Rattle.rule_match.proofs.BaseLines.{line_there}
 use Rattle.rule_match.proofs.Gathered.{line_numbered}
@@ -16,7 +20,9 @@ use Rattle.mesh_run.specs.declared.refusals.Refusals.{Refusals}
 use Rattle.mesh_run.specs.declared.refusals.Region.{Region}
 use Rattle.mesh_run.specs.Remembered.{AreCovering, AreStill, AreTrue, HasRegion, IsNoted, IsOfLine, IsRegion}
 use Rattle.mesh_run.specs.Steps.{RunSetting}
-use Rattle.mesh_run.specs.Worklist.{least_open}
+use Rattle.mesh_run.specs.Kept.{AreFewerNotes, AreOnFront, PairNotes}
+use Rattle.mesh_run.specs.Worklist.{least_open, turn_cmp}
+use Rattle.mesh_run.proofs.Turns.{same_turn}
 use Rattle.mesh_run.proofs.Searched.{noted_remembered}
 use Rattle.mesh_run.proofs.Regions.{put_in}
 use Rattle.mesh_run.proofs.StillNone.{below_next}
@@ -39,9 +45,9 @@ still_has m after sizes points line class reaches stay h = record {
 }
 
 -- so what is remembered stays true
-pub still_kept : (s : RunSetting) (st : State) (m after : Refusals) → after.least.items ≡ m.least.items → after.reaches.items ≡ m.reaches.items → AreStill m.regions.entries after.regions.entries
-    → ((e : Entry Region) → Contains after.regions.entries e → IsOfLine after.reaches.items s.sizes st e) → AreTrue m s st → AreTrue after s st
-still_kept s st m after least reaches stay own h = record {
+pub still_kept : (s : RunSetting) (st : State) (m after : Refusals) → after.least.items ≡ m.least.items → after.reaches.items ≡ m.reaches.items → ((turn : ℕ × ℕ) → get turn_cmp after.notes turn ≡ get turn_cmp m.notes turn)
+    → AreStill m.regions.entries after.regions.entries → ((e : Entry Region) → Contains after.regions.entries e → IsOfLine after.reaches.items s.sizes st e) → AreTrue m s st → AreTrue after s st
+still_kept s st m after least reaches notes stay own h = record {
   remembered = record { none = λ line class first l. h.remembered.none line class first (subst (λ (table : List ℕ). class < slice_index_or table line 0) least l) };
   covers = subst (λ (ns : List ℕ). AreCovering s.rules ns) (sym reaches) h.covers;
   reaching = record {
@@ -50,6 +56,16 @@ still_kept s st m after least reaches stay own h = record {
         still_has m after s.sizes st.points line class reaches stay (h.reaching.regions line class c first (subst (λ (table : List ℕ). class < slice_index_or table line.0 0) least l));
     own = own;
   };
+  noted = record { refused = λ line class held first l has on. h.noted.refused line class held first (subst (λ (table : List ℕ). class < slice_index_or table line 0) least l) (sym (notes (class, line)) ∙ has) on };
+}
+
+-- with fewer notes it stays true
+pub fewer_true : (s : RunSetting) (st : State) (m : Refusals) (notes : PairNotes) → AreFewerNotes m.notes notes → AreTrue m s st → AreTrue (record m { notes = notes }) s st
+fewer_true s st m notes fewer h = record {
+  remembered = h.remembered;
+  covers = h.covers;
+  reaching = record { given = h.reaching.given; regions = λ line class c first l. still_has m (record m { notes = notes }) s.sizes st.points line class refl (record { each = λ e k. k }) (h.reaching.regions line class c first l); own = h.reaching.own };
+  noted = record { refused = λ line class held first l has on. h.noted.refused line class held first l (fewer.each (class, line) held has) on };
 }
 
 -- where rules reach as far up to the class as up to the class before, a region at that class is one at the class
@@ -134,10 +150,46 @@ module _ (s : RunSetting) (f : FrontState) (m after : Refusals) (line class : �
       by (inl same) = h.reaching.regions other k c positive (subst (λ (n : ℕ). k < n) same l)
       by (inr e) = here e.0 (split (slice_index_or after.least.items other.0 0) e.1 l)
 
+  -- notes that are put to the line at the class are the pair's; each other pair has those of before
+  noted_after : (notes : Vec Note Global) → Updates turn_cmp m.notes after.notes (class, line) (Some notes) → class ≤ least_open m.least.items line → IsRefusedBy s.sizes (state_of f) s.rules line class notes.items
+      → (other k : ℕ) (held : Vec Note Global) → 1 ≤ k → k < slice_index_or after.least.items other 0 → get turn_cmp after.notes (k, other) ≡ Some held → AreOnFront (state_of f) held.items → IsRefusedBy s.sizes (state_of f) s.rules other k held.items
+  noted_after notes put first refused other k held positive l has on = by (noted.each other)
+    where
+      Refused : Vec Note Global → Type 0
+      Refused v = IsRefusedBy s.sizes (state_of f) s.rules other k v.items
+
+      -- the pair itself
+      itself : ◌≡◌ {A = ℕ × ℕ} (k, other) (class, line) → Refused held
+      itself e =
+          let there : ◌≡◌ {A = Option (Vec Note Global)} (Some notes) (Some held) = sym put.1 ∙ subst (λ (q : ℕ × ℕ). get turn_cmp after.notes q ≡ Some held) e has in
+          subst (λ (q : ℕ × ℕ). IsRefusedBy s.sizes (state_of f) s.rules q.1 q.0 held.items) (sym e) (subst (λ (v : Vec Note Global). IsRefusedBy s.sizes (state_of f) s.rules line class v.items) (same_Some notes held there) refused)
+
+      before : k < slice_index_or m.least.items other 0 → Refused held
+      before b = at (is_at (turn_cmp (class, line)) (k, other)) refl
+        where
+          at : (x : Bool) → is_at (turn_cmp (class, line)) (k, other) ≡ x → Refused held
+          at true e = itself (same_turn (class, line) (k, other) e)
+          at false e = h.noted.refused other k held positive b (sym (put.2 (k, other) e) ∙ has) on
+
+      split : (n : ℕ) → n ≡ class + 1 → k < n → (k ≡ class) ⊎ (k < class)
+      split n e b = grind arith
+
+      below : (n : ℕ) → class ≤ max 1 n → k < class → k < n
+      below n b d = omega (arith, positive)
+
+      here : other ≡ line → (k ≡ class) ⊎ (k < class) → Refused held
+      here e (inl same) = itself (λ i. (same i, e i))
+      here e (inr less) = before (subst (λ (n : ℕ). k < slice_index_or m.least.items n 0) (sym e) (below (slice_index_or m.least.items line 0) first less))
+
+      by : (slice_index_or after.least.items other 0 ≡ slice_index_or m.least.items other 0) ⊎ ((other ≡ line) × (slice_index_or after.least.items other 0 ≡ class + 1)) → Refused held
+      by (inl same) = before (subst (λ (n : ℕ). k < n) same l)
+      by (inr e) = here e.0 (split (slice_index_or after.least.items other 0) e.1 l)
+
   -- what is remembered with one more refusal is true
-  pub noted_true : after.reaches.items ≡ m.reaches.items → AreStill m.regions.entries after.regions.entries → ((e : Entry Region) → Contains after.regions.entries e → Contains m.regions.entries e) → is_some (line_at f.lines line) ≡ true → class ≤ least_open m.least.items line
+  pub noted_true : (notes : Vec Note Global) → Updates turn_cmp m.notes after.notes (class, line) (Some notes) → IsRefusedBy s.sizes (state_of f) s.rules line class notes.items
+      → after.reaches.items ≡ m.reaches.items → AreStill m.regions.entries after.regions.entries → ((e : Entry Region) → Contains after.regions.entries e → Contains m.regions.entries e) → is_some (line_at f.lines line) ≡ true → class ≤ least_open m.least.items line
       → ((ends : ℕ × ℕ) → line_at f.lines line ≡ Some ends → HasRegion m s.sizes f.points (line, ends.0, ends.1) class) → ((n : ℕ) → 1 ≤ n → n ≤ class → HasNone s.sizes (state_of f) s.rules line n) → AreTrue after s (state_of f)
-  noted_true reaches stay fewer there first held none = record {
+  noted_true notes put refused reaches stay fewer there first held none = record {
     remembered = noted_remembered s (state_of f) m.least.items after.least.items line class h.remembered noted none;
     covers = subst (λ (ns : List ℕ). AreCovering s.rules ns) (sym reaches) h.covers;
     reaching = record {
@@ -145,4 +197,5 @@ module _ (s : RunSetting) (f : FrontState) (m after : Refusals) (line class : �
       regions = λ other k c positive l. still_has m after s.sizes f.points other k reaches stay (all_have first held other k c positive l);
       own = λ e c. subst (λ (ns : List ℕ). IsOfLine ns s.sizes (state_of f) e) (sym reaches) (h.reaching.own e (fewer e c));
     };
+    noted = record { refused = noted_after notes put first refused };
   }

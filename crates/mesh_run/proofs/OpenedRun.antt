@@ -16,8 +16,10 @@ use Rattle.mesh_run.specs.declared.Options.{Options}
 use Rattle.mesh_run.specs.Boundary.{IsNumberTo}
 use Rattle.mesh_run.specs.Opening.{domain_points, opening_lines, front_from}
 use Rattle.mesh_run.specs.Runs.{pieces_by, opening_of, setting_of}
-use Rattle.mesh_run.specs.RunState.{RunParts, IsRunState, AreOptions, elements_made, run_of, opened_run}
-use Rattle.mesh_run.specs.Remembered.{AreCovering, DoesRemember, IsEmpty}
+use Rattle.mesh_run.specs.RunState.{RunParts, IsRunState, AreOptions, elements_made, run_of, opened_run, setting_by}
+use Rattle.mesh_run.specs.Remembered.{AreCovering, AreTrue, DoesRemember, IsEmpty}
+use Rattle.mesh_run.specs.Steps.{RunSetting}
+use Rattle.state_law.specs.State.{State}
 use Rattle.digital_tree.specs.declared.Entry.{Entry}
 use Rattle.mesh_run.specs.declared.refusals.Refusals.{Refusals}
 use Rattle.mesh_run.specs.declared.refusals.Region.{Region}
@@ -74,16 +76,13 @@ opened_holds g p h options = subst IsRunState (sym (opened_is g p h)) (record {
     level : (n : ℕ) → n ≤ n
     level n = omega arith
 
--- nothing is remembered at the opening
-pub opened_remembers : (g : PlanarMap) (p : RunParts) (reaches : List ℕ) (m : Refusals) → AreOpened g p → AreOptions p.options → AreCovering p.rules reaches → IsEmpty reaches m → DoesRemember (run_of p) m None
-opened_remembers g p reaches m h options covers e = record {
-  is_run = opened_holds g p h options;
-  remembered = record {
-    remembered = record { none = λ line class f l. absurd (nothing line class l) };
-    covers = subst (AreCovering p.rules) (sym e.reaches_are) covers;
-    reaching = record { given = λ line l. absurd (nothing line 0 l); regions = λ line class c f l. absurd (nothing line.0 class l); own = λ x c. absurd (no_entry x c) };
-  };
-  to_try = tt;
+-- where nothing is remembered, what is remembered is true of any state
+pub nothing_true : (s : RunSetting) (st : State) (reaches : List ℕ) (m : Refusals) → AreCovering s.rules reaches → IsEmpty reaches m → AreTrue m s st
+nothing_true s st reaches m covers e = record {
+  remembered = record { none = λ line class f l. absurd (nothing line class l) };
+  covers = subst (AreCovering s.rules) (sym e.reaches_are) covers;
+  reaching = record { given = λ line l. absurd (nothing line 0 l); regions = λ line class c f l. absurd (nothing line.0 class l); own = λ x c. absurd (no_entry x c) };
+  noted = record { refused = λ line class held f l has on. absurd (nothing line class l) };
 }
   where
     empty : (line class : ℕ) → class < slice_index_or [] line 0 → ⊥
@@ -94,6 +93,14 @@ opened_remembers g p reaches m h options covers e = record {
 
     nothing : (line class : ℕ) → class < slice_index_or m.least.items line 0 → ⊥
     nothing line class l = empty line class (subst (λ (table : List ℕ). class < slice_index_or table line 0) e.nothing l)
+
+-- so it is at the opening
+pub opened_remembers : (g : PlanarMap) (p : RunParts) (reaches : List ℕ) (m : Refusals) → AreOpened g p → AreOptions p.options → AreCovering p.rules reaches → IsEmpty reaches m → DoesRemember (run_of p) m None
+opened_remembers g p reaches m h options covers e = record {
+  is_run = opened_holds g p h options;
+  remembered = nothing_true (setting_by (run_of p).basis) (run_of p).state reaches m covers e;
+  to_try = tt;
+}
 
 -- the parts as they are made: of segments and pieces, and of the points and lines of the opening
 pub record AreSetUp (g : PlanarMap) (p : RunParts) (segments : List Segment) (pieces : List Piece) (points : List Point) : Type 0 where

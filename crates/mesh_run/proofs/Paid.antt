@@ -119,7 +119,8 @@ pub record IsPutOn (s : RunSetting) (st : State) (a : Application) (before after
   pub box : Bounds
   pub base : (ends : ℕ × ℕ) → line_at st.front a.line ≡ Some ends → IsReachBox s.sizes st.points reach ends.0 ends.1 box
   pub remembered : AreTrue before s st
-  pub forgotten : IsForgottenNear (st.points ++ a.made) a.elements before after
+  pub later : State
+  pub forgotten : IsForgottenNear s later (st.points ++ a.made) a.elements before after
 
 module _ (s : RunSetting) (st : State) (a : Application) (before after : Refusals) (h : IsPutOn s st a before after) where
   some : 1 ≤ length a.elements
@@ -141,8 +142,8 @@ module _ (s : RunSetting) (st : State) (a : Application) (before after : Refusal
   rules_are : AllByRecursion IsRule s.rules
   rules_are = all_map (IsCoveredAt 0 (slice_index_or before.reaches.items 0 0)) IsRule (λ r c. c.rule) s.rules (h.remembered.covers.covers 0 (above (length before.reaches.items) h.remembered.covers.long))
     where
-      above : (n : ℕ) → 16 < n → 0 < n
-      above n l = omega (arith, l)
+      above : (n : ℕ) → n ≡ 17 → 0 < n
+      above n e = omega (arith, e)
 
   -- ---- lines that are touched
   -- a line of which an entry was hit
@@ -333,7 +334,7 @@ pub record IsGoingOn (p : RunParts) (a : Application) (same after : FrontState) 
   pub front : IsFrontState same
   pub may : MayBeApplied (state_of same) a
   pub pushed : IsPushed p a same after applications
-  pub forgotten : IsForgottenNear (same.points ++ a.made) a.elements before left
+  pub forgotten : IsForgottenNear (setting_by (run_of p).basis) (applied (state_of same) a) (same.points ++ a.made) a.elements before left
   pub reach : ℕ
   pub box : Bounds
   pub base : (ends : ℕ × ℕ) → line_at same.lines a.line ≡ Some ends → IsReachBox p.sizes same.points reach ends.0 ends.1 box
@@ -353,7 +354,8 @@ run_paid p a same after applications before left h =
       box = h.box;
       base = λ ends e. subst (λ (points : List Point). IsReachBox p.sizes points h.reach ends.0 ends.1 h.box) equal.points (h.base ends (subst (λ (lines : List Triple). line_at lines a.line ≡ Some ends) (sym equal.lines) e));
       remembered = h.remembered;
-      forgotten = subst (λ (points : List Point). IsForgottenNear (points ++ a.made) a.elements before left) equal.points h.forgotten;
+      later = applied (state_of same) a;
+      forgotten = subst (λ (points : List Point). IsForgottenNear s (applied (state_of same) a) (points ++ a.made) a.elements before left) equal.points h.forgotten;
     } in
     let lines : after.lines ≡ (applied st a).front = ap (λ (r : RunState). r.state.front) (put_run p a same after applications h.grows h.pushed) in
     subst (λ (later : List Triple). IsPaid s st a (due p.options.last before.least.items p.front.lines) (due p.options.last left.least.items later + 1)) (sym lines) (application_paid s st a before left put)

@@ -7,6 +7,8 @@ use Rattle.rule_match.specs.declared.application.Application.{Application}
 use Rattle.rule_match.specs.Candidate.{Attempt, IsCandidate}
 use Rattle.rule_match.specs.Least.{IsOf, HasNone}
 use Rattle.rule_match.specs.Best.{IsBest}
+use Rattle.rule_match.specs.declared.progress.Note.{Note}
+use Rattle.rule_match.specs.Refused.{IsAllowed, IsRefusedBy}
 
 -- the two states have the same points and the same front
 pub record AreSame (st other : State) : Type 0 where
@@ -23,7 +25,7 @@ turned st other h = record { points = λ i. sym_points i; front = λ i. sym_fron
     sym_front = cc (h.front)
 
 -- the state with another next number and other elements
-abbrev other_ends : State → State → State
+abbrev pub other_ends : State → State → State
 other_ends st other = record { points = st.points; front = st.front; next = other.next; elements = other.elements }
 
 candidate_here : (st other : State) (t : Attempt) → IsCandidate st t → IsCandidate (other_ends st other) t
@@ -51,7 +53,7 @@ candidate_here st other t c = record {
 }
 
 -- the state with the same ends, once by the points and the front of each
-ends_are : (st other : State) → AreSame st other → other_ends st other ≡ other
+pub ends_are : (st other : State) → AreSame st other → other_ends st other ≡ other
 ends_are st other h = λ i. record { points = h.points i; front = h.front i; next = other.next; elements = other.elements }
 
 -- a candidate of the one is a candidate of the other
@@ -74,6 +76,33 @@ module _ (sizes : SizeField) (rules : List Rule) (line class : ℕ) where
 
   pub same_none : (st other : State) → AreSame st other → HasNone sizes st rules line class → HasNone sizes other rules line class
   same_none st other h n = record { none = λ t o c. n.none t (same_of other st t (turned st other h) o) (same_candidate other st t (turned st other h) c) }
+
+  allowed_here : (st other : State) (t : Attempt) → IsAllowed st t → IsAllowed (other_ends st other) t
+  allowed_here st other t a = record {
+    live = a.live;
+    quality = a.quality;
+    counted = a.counted;
+    different = a.different;
+    in_range = a.in_range;
+    at_start = a.at_start;
+    at_end = a.at_end;
+    points_tolerated = a.points_tolerated;
+    lines_tolerated = a.lines_tolerated;
+    turned = a.turned;
+    made_on_grid = a.made_on_grid;
+    made_different = a.made_different;
+    zone_on_grid = a.zone_on_grid;
+    zone_convex = a.zone_convex;
+  }
+
+  refused_here : (st other : State) (notes : List Note) → IsRefusedBy sizes st rules line class notes → IsRefusedBy sizes (other_ends st other) rules line class notes
+  refused_here st other notes r = record {
+    excused = λ t o a fits. r.excused t (of_here (other_ends st other) st t o) (allowed_here (other_ends st other) st t a) (record { on_front = fits.on_front; at_lines = fits.at_lines });
+  }
+
+  -- what is refused by notes in the one is so in the other
+  pub same_refused : (st other : State) (notes : List Note) → AreSame st other → IsRefusedBy sizes st rules line class notes → IsRefusedBy sizes other rules line class notes
+  same_refused st other notes h r = subst (λ (s : State). IsRefusedBy sizes s rules line class notes) (ends_are st other h) (refused_here st other notes r)
 
   best_here : (st other : State) (a : Application) → IsBest sizes st rules line class a → IsBest sizes (other_ends st other) rules line class a
   best_here st other a b = record {

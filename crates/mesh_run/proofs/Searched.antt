@@ -1,5 +1,5 @@
 -- What is remembered, and what comes next, depend on the points and the front alone.
-use Rattle.std.proofs.Common.{◌≡◌, ℕ, ◌+◌, ◌<◌, ◌≤◌, ◌⊎◌, inl, inr, slice_index_or, List, sym, subst, arith}
+use Rattle.std.proofs.Common.{◌≡◌, ℕ, ◌+◌, ◌<◌, ◌≤◌, ◌⊎◌, inl, inr, slice_index_or, All, List, IsSome, sym, subst, arith}
 use Rattle.std.specs.List.{Contains}
 use Rattle.grid_geom.specs.declared.Point.{Point}
 use Rattle.digital_tree.specs.declared.Entry.{Entry}
@@ -8,10 +8,12 @@ use Rattle.mesh_run.specs.declared.refusals.Refusals.{Refusals}
 use Rattle.mesh_run.specs.declared.refusals.Region.{Region}
 use Rattle.state_law.specs.State.{State}
 use Rattle.rule_match.specs.declared.application.Application.{Application}
+use Rattle.front_chain.specs.Front.{line_at}
+use Rattle.rule_match.specs.declared.progress.Note.{Note}
 use Rattle.rule_match.specs.Least.{HasNone}
 use Rattle.mesh_run.specs.Steps.{RunSetting, IsNext, NothingApplies}
 use Rattle.mesh_run.specs.Remembered.{AreReaching, AreRemembered, AreTrue, HasRegion, IsNoted, IsOfLine, IsReachOfLine}
-use Rattle.mesh_run.proofs.SameState.{AreSame, same_best, same_none}
+use Rattle.mesh_run.proofs.SameState.{AreSame, same_best, same_none, same_refused}
 
 -- what is remembered of a line that has no candidate up to a class is true
 pub noted_remembered : (s : RunSetting) (st : State) (before after : List ℕ) (line class : ℕ) → AreRemembered before s st → IsNoted before after line (class + 1)
@@ -63,4 +65,11 @@ same_true s m st other same next h = record {
   remembered = same_remembered s m.least.items st other same h.remembered;
   covers = h.covers;
   reaching = same_reaching m s.sizes st other same next h.reaching;
+  noted = record {
+    refused = λ line class held first l has on.
+        same_refused s.sizes s.rules line class st other held.items same
+        (h.noted.refused line class held first l has
+        (subst (λ (n : ℕ). All (λ (note : Note). note.line < n → IsSome (line_at st.front note.line)) held.items) next
+        (subst (λ (front : List (ℕ × ℕ × ℕ)). All (λ (note : Note). note.line < other.next → IsSome (line_at front note.line)) held.items) (sym same.front) on)));
+  };
 }

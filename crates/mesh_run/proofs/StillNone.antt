@@ -31,16 +31,16 @@ use Rattle.mesh_run.proofs.Steps.{reached_after, reached_with}
 abbrev AreAllListed : State → List (List ℕ) → Type 0
 AreAllListed w els = AllByRecursion (λ ns. AllByRecursion (IsListed (length w.points)) ns) els
 
-edges_on : (w : State) (els : List (List ℕ)) → IsNumbered w → AreAllListed w els → front_edges w.points (glued_on w els).front ≡ glue_all (front_at w) (map (corners_of w.points) els)
+pub edges_on : (w : State) (els : List (List ℕ)) → IsNumbered w → AreAllListed w els → front_edges w.points (glued_on w els).front ≡ glue_all (front_at w) (map (corners_of w.points) els)
 edges_on w [] n l = refl
 edges_on w (ns ∷ els) n l = edges_on (glued w ns) els (glued_numbered w ns n l.0) l.1 ∙ ap (λ (es : List Edge). glue_all es (map (corners_of w.points) els)) (glued_edges w ns n l.0)
 
-may_on : (w : State) (els : List (List ℕ)) → IsNumbered w → AreAllListed w els → MayFollow w els → MayAllBeGlued (map (corners_of w.points) els) (front_at w)
+pub may_on : (w : State) (els : List (List ℕ)) → IsNumbered w → AreAllListed w els → MayFollow w els → MayAllBeGlued (map (corners_of w.points) els) (front_at w)
 may_on w [] n l m = tt
 may_on w (ns ∷ els) n l m = (m.0, subst (MayAllBeGlued (map (corners_of w.points) els)) (glued_edges w ns n l.0) (may_on (glued w ns) els (glued_numbered w ns n l.0) l.1 m.1))
 
 -- ---- the state after an application is alike in a box apart from its elements
-front_of : (b : List Edge) (st : State) → IsReached b st → IsFront (front_at st)
+pub front_of : (b : List Edge) (st : State) → IsReached b st → IsFront (front_at st)
 front_of b st r = region_front (front_at st) (region_of b [] (front_at st) _ r.kept)
 
 pub alike_on : (lo hi : Point) (b : List Edge) (st : State) (a : Application) → IsReached b st → MayBeApplied st a → IsApartFrom lo hi st a → IsAlikeNear lo hi st (applied st a) a.made

@@ -1,5 +1,5 @@
 -- What a run remembers stays true over an application, where what was looked at near its elements is forgotten.
-use Rattle.std.proofs.Common.{BTreeSet, max, ◌≡◌, ℕ, ◌<◌, ◌≤◌, ◌<ℤ◌, ◌≤ℤ◌, ◌⊎◌, inl, inr, Bool, true, false, ◌&&◌, List, [], ◌∷◌, ◌++◌, length, map, slice_index_or, refl, sym, ap, ◌∙◌, subst, arith, Option, None, Some, IfSome, ℤ}
+use Rattle.std.proofs.Common.{BTreeSet, max, ◌≡◌, ℕ, ◌<◌, ◌≤◌, ◌<ℤ◌, ◌≤ℤ◌, ◌⊎◌, inl, inr, Bool, true, false, ◌&&◌, List, [], ◌∷◌, ◌++◌, length, map, slice_index_or, refl, sym, ap, ◌∙◌, subst, arith, Option, None, Some, IfSome, Vec, Global, ℤ}
 use lib.Signed.{le_z}
 use Rattle.std.specs.List.{AllByRecursion, Contains}
 use Rattle.std.proofs.lemmas.Int.{ints}
@@ -12,29 +12,38 @@ use Rattle.digital_tree.specs.Entries.{is_hit}
 use Rattle.rule_maps.specs.Frame.{IsFrameOf}
 use Rattle.size_field.specs.Size.{SizeField, size_at}
 use Rattle.state_law.specs.Saved.{AreInBox}
-use Rattle.state_law.specs.State.{State, AreRising, IsListed, corners_of, glue_line, glued, next_after, next_after_all, number_sides, point_at}
+use Rattle.state_law.specs.State.{State, AreRising, IsListed, corners_of, point_at}
 use Rattle.front_chain.specs.Front.{FrontState, IsFrontState, edges_of, state_of}
-use Rattle.state_law.proofs.LineNumbers.{glued_rising}
 use Rattle.admission.proofs.Order.{same_points}
-use Rattle.admission.specs.Admission.{glued_on}
 use Rattle.rule_match.specs.declared.application.Application.{Application}
 use Rattle.rule_match.specs.Candidate.{Attempt, IsCandidate}
 use Rattle.rule_match.specs.Least.{HasNone, IsOf}
 use Rattle.rule_match.specs.Near.{AreBoxesApart, IsCoveredAt, IsFarLine, IsReachBox}
+use Rattle.rule_match.specs.declared.progress.Note.{Note}
+use Rattle.rule_match.specs.Refused.{FitsFront, IsAllowed, IsExcused, IsRefusedBy}
+use Rattle.rule_match.proofs.Places.{refused_none}
 use Rattle.rule_match.proofs.ReachBoxes.{far_by_box}
+use Rattle.rule_reader.specs.Normal.{IsRule}
+use Rattle.state_law.proofs.Lists.{all_map}
+use Rattle.std.specs.BTreeMap.{get}
+use Rattle.std.proofs.lemmas.Option.{same_Some}
 use Rattle.mesh_run.specs.declared.refusals.Refusals.{Refusals}
 use Rattle.mesh_run.specs.declared.refusals.Region.{Region}
 use Rattle.mesh_run.specs.Reached.{IsReached, MayBeApplied}
-use Rattle.mesh_run.specs.Remembered.{AreCovering, AreTrue, DoesRemember, HasRegion, IsForgottenNear, IsInArea, IsOfLine, IsReachOfLine, IsRegion}
-use Rattle.mesh_run.specs.Worklist.{AreToTry, AreTriedAgain, AreTriedFirst, DoesStay, IsOn, IsToTry, least_open}
-use Rattle.mesh_run.proofs.Tried.{still_on}
+use Rattle.mesh_run.specs.Kept.{AreOnFront, IsLookedAgain, IsNotedAt}
+use Rattle.mesh_run.specs.Remembered.{AreCovering, AreTrue, DoesRemember, HasRegion, IsForgottenNear, IsGone, IsInArea, IsOfLine, IsReachOfLine, IsRegion}
+use Rattle.mesh_run.specs.Worklist.{AreToTry, AreTriedAgain, AreTriedFirst, DoesStay, IsOn, IsToTry, least_open, turn_cmp}
+use Rattle.mesh_run.proofs.Tried.{still_on as still_tried}
 use Rattle.mesh_run.specs.RunState.{RunParts, run_of, setting_by}
 use Rattle.mesh_run.specs.Steps.{RunSetting, IsNext, applied, with_points}
 use Rattle.mesh_run.proofs.GoesOn.{IsPushed, of_front, put_holds}
 use Rattle.mesh_run.proofs.HeldAreas.{Holds}
 use Rattle.mesh_run.proofs.Numbers.{AreJoined, point_kept}
 use Rattle.mesh_run.proofs.Searched.{same_true}
-use Rattle.mesh_run.proofs.StillNone.{Triple, IsOldOrNew, all_old, below_next, contained, elements_on, next_rises, still_none, stays_same}
+use Rattle.mesh_run.proofs.Followed.{next_on, old_or_new, rising_on}
+use Rattle.mesh_run.proofs.Missed.{missed_refused, stood}
+use Rattle.mesh_run.proofs.Steps.{reached_after}
+use Rattle.mesh_run.proofs.StillNone.{Triple, below_next, contained, front_of, still_none, stays_same}
 
 -- corners that are in an area are in its box
 module _ (area : Bounds) (pts : List Point) where
@@ -55,19 +64,6 @@ module _ (area : Bounds) (pts : List Point) where
   boxed : (els : List (List ℕ)) → AllByRecursion (Holds area pts) els → AllByRecursion (AreInBox area.lo area.hi) (map (corners_of pts) els)
   boxed [] h = tt
   boxed (ns ∷ els) h = (in_box ns h.0, boxed els h.1)
-
--- ---- numbers rise
-next_rises_all : (front : List Triple) (next : ℕ) (ss : List (ℕ × ℕ)) → next ≤ next_after_all front next ss
-next_rises_all front next [] = omega arith
-next_rises_all front next (s ∷ ss) = let one = next_rises front next s in let more = next_rises_all (glue_line front next s) (next_after front next s) ss in omega (arith, one, more)
-
-next_on : (w : State) (els : List (List ℕ)) → w.next ≤ (glued_on w els).next
-next_on w [] = omega arith
-next_on w (ns ∷ els) = let one = next_rises_all w.front w.next (number_sides ns) in let more = next_on (glued w ns) els in omega (arith, one, more)
-
-rising_on : (w : State) (els : List (List ℕ)) → AreRising w.front w.next → AreRising (glued_on w els).front (glued_on w els).next
-rising_on w [] r = r
-rising_on w (ns ∷ els) r = rising_on (glued w ns) els (glued_rising w ns r)
 
 -- a line has the same box where its ends have the same places
 pub moved_box : (sizes : SizeField) (points later : List Point) (n from to : ℕ) (box : Bounds) → point_at later from ≡ point_at points from → point_at later to ≡ point_at points to → IsReachBox sizes points n from to box → IsReachBox sizes later n from to box
@@ -116,44 +112,54 @@ clash : (line next : ℕ) → line < next → next ≤ line → ⊥
 clash line next l k = omega arith
 
 -- ---- what is remembered stays true
--- the line's region at the class, which doesn't meet the area, and is still there
-record IsMissed (m after : Refusals) (sizes : SizeField) (points : List Point) (area : Bounds) (line : Triple) (class : ℕ) : Type 0 where
+-- the line's region at the class is still there; it doesn't meet the area, or the line was looked at again
+record IsStillRegion (s : RunSetting) (later : State) (m after : Refusals) (points : List Point) (area : Bounds) (line : Triple) (class : ℕ) : Type 0 where
   entry : Entry Region
-  region : IsRegion m.reaches.items sizes points line class entry
-  missed : is_hit area entry ≡ false
+  region : IsRegion m.reaches.items s.sizes points line class entry
   there : Contains after.regions.entries entry
+  how : (is_hit area entry ≡ false) ⊎ IsNotedAt after.notes s later line.0 class
 
 module _ (s : RunSetting) (b : List Edge) (st : State) (a : Application) (before after : Refusals) (r : IsReached b st) (m : MayBeApplied st a) (rising : AreRising st.front st.next)
-    (h : AreTrue before s st) (f : IsForgottenNear (st.points ++ a.made) a.elements before after) where
-  -- each later line was there, or has a new number
-  old_or_new : (line : Triple) → Contains (applied st a).front line → Contains st.front line ⊎ (st.next ≤ line.0)
-  old_or_new line c = contained (IsOldOrNew st.front st.next) (applied st a).front line (elements_on st.front st.next (with_points st a.made) a.elements (level st.next) (all_old st.front st.next st.front (λ l k. k))) c
-    where
-      level : (n : ℕ) → n ≤ n
-      level n = omega arith
-
+    (h : AreTrue before s st) (f : IsForgottenNear s (applied st a) (st.points ++ a.made) a.elements before after) where
   was_given : (line : ℕ) → 0 < slice_index_or after.least.items line 0 → line < st.next
   was_given line p = h.reaching.given line (before_too (slice_index_or before.least.items line 0) (slice_index_or after.least.items line 0) (f.less line) p)
     where
       before_too : (m n : ℕ) → n ≤ m → 0 < n → 0 < m
       before_too m n l p = omega arith
 
-  -- a class of an old line that is still remembered has a region that was missed
-  missed : (line : Triple) (class : ℕ) → Contains st.front line → 1 ≤ class → class < slice_index_or after.least.items line.0 0 → IsMissed before after s.sizes st.points f.area line class
-  missed line class c first l = by (f.each has.entry has.there)
+  -- what is still remembered was remembered
+  was_before : (line class : ℕ) → class < slice_index_or after.least.items line 0 → class < slice_index_or before.least.items line 0
+  was_before line class l = further class (slice_index_or after.least.items line 0) (slice_index_or before.least.items line 0) l (f.less line)
     where
       further : (class n m : ℕ) → class < n → n ≤ m → class < m
       further class n m l k = omega arith
 
+  -- a class of an old line that is still remembered has its region still
+  still_region : (line : Triple) (class : ℕ) → Contains st.front line → 1 ≤ class → class < slice_index_or after.least.items line.0 0 → IsStillRegion s (applied st a) before after st.points f.area line class
+  still_region line class c first l = by (f.each has.entry has.there)
+    where
       never : (class first n : ℕ) → class < n → first ≤ class → n ≤ first → ⊥
       never class first n l k j = omega arith
 
       has : HasRegion before s.sizes st.points line class
-      has = h.reaching.regions line class c first (further class (slice_index_or after.least.items line.0 0) (slice_index_or before.least.items line.0 0) l (f.less line.0))
+      has = h.reaching.regions line class c first (was_before line.0 class l)
 
-      by : (slice_index_or after.least.items has.entry.value.line 0 ≤ has.entry.value.class) ⊎ ((is_hit f.area has.entry ≡ false) × Contains after.regions.entries has.entry) → IsMissed before after s.sizes st.points f.area line class
+      -- the class is one for which the region answers
+      noted : IsLookedAgain after s (applied st a) has.entry.value → IsNotedAt after.notes s (applied st a) line.0 class
+      noted looked =
+          subst (λ (n : ℕ). IsNotedAt after.notes s (applied st a) n class) has.region.of_line
+          (looked.noted class first (subst (λ (ns : List ℕ). class < length ns) (sym f.reaches) has.region.tried)
+          (has.region.from, subst (λ (ns : List ℕ). slice_index_or ns class 0 ≡ slice_index_or ns has.entry.value.class 0) (sym f.reaches) has.region.same)
+          (subst (λ (n : ℕ). class < slice_index_or after.least.items n 0) (sym has.region.of_line) l))
+
+      by : IsGone after has.entry ⊎ (Contains after.regions.entries has.entry × ((is_hit f.area has.entry ≡ false) ⊎ IsLookedAgain after s (applied st a) has.entry.value)) → IsStillRegion s (applied st a) before after st.points f.area line class
       by (inl gone) = absurd (never class has.entry.value.class (slice_index_or after.least.items line.0 0) l has.region.from (subst (λ (n : ℕ). slice_index_or after.least.items n 0 ≤ has.entry.value.class) has.region.of_line gone))
-      by (inr k) = record { entry = has.entry; region = has.region; missed = k.0; there = k.1 }
+      by (inr k) = record { entry = has.entry; region = has.region; there = k.0; how = elim k.1 [ inl missed ↦ inl missed | inr looked ↦ inr (noted looked) ] }
+
+  -- a line's region that was missed is far from the area
+  far_region : (line : Triple) (class : ℕ) → Contains st.front line → (k : IsStillRegion s (applied st a) before after st.points f.area line class) → is_hit f.area k.entry ≡ false
+      → IsFarLine s.sizes st (slice_index_or before.reaches.items class 0) f.area.lo f.area.hi line.0
+  far_region line class c k missed = far_by_box s.sizes st (slice_index_or before.reaches.items class 0) line k.entry.bounds f.area c k.region.holds f.on_grid (missed_apart f.area k.entry missed)
 
   -- so an old line has no candidate where it had none
   far_none : (n line class : ℕ) → 1 ≤ class → AllByRecursion (IsCoveredAt class n) s.rules → IsFarLine s.sizes st n f.area.lo f.area.hi line → HasNone s.sizes st s.rules line class → HasNone s.sizes (applied st a) s.rules line class
@@ -174,32 +180,69 @@ module _ (s : RunSetting) (b : List Edge) (st : State) (a : Application) (before
       level n = omega arith
 
   old_none : (line : Triple) (class : ℕ) → Contains st.front line → 1 ≤ class → class < slice_index_or after.least.items line.0 0 → HasNone s.sizes st s.rules line.0 class → HasNone s.sizes (applied st a) s.rules line.0 class
-  old_none line class c first l =
-      let k = missed line class c first l in let n = slice_index_or before.reaches.items class 0 in
-      far_none n line.0 class first (h.covers.covers class k.region.tried)
-      (far_by_box s.sizes st n line k.entry.bounds f.area c k.region.holds f.on_grid (missed_apart f.area k.entry k.missed))
+  old_none line class c first l none = by k.how
+    where
+      k : IsStillRegion s (applied st a) before after st.points f.area line class
+      k = still_region line class c first l
+
+      by : (is_hit f.area k.entry ≡ false) ⊎ IsNotedAt after.notes s (applied st a) line.0 class → HasNone s.sizes (applied st a) s.rules line.0 class
+      by (inl missed) = far_none (slice_index_or before.reaches.items class 0) line.0 class first (h.covers.covers class k.region.tried) (far_region line class c k missed) none
+      by (inr noted) = record { none = refused_none s.sizes (applied st a) s.rules line.0 class noted.held.items (front_of b (applied st a) (reached_after b st a r m)) noted.refused }
 
   none_after : (line class : ℕ) → 1 ≤ class → class < slice_index_or after.least.items line 0 → HasNone s.sizes (applied st a) s.rules line class
-  none_after line class first l = record { none = λ t o c. by t o (old_or_new t.line o.on_front) c }
+  none_after line class first l = record { none = λ t o c. by t o (old_or_new st a t.line o.on_front) c }
     where
-      before_too : (m n : ℕ) → class < n → n ≤ m → class < m
-      before_too m n l k = omega arith
-
       by : (t : Attempt) → IsOf s.sizes (applied st a) s.rules line class t → Contains st.front t.line ⊎ (st.next ≤ t.line.0) → IsCandidate (applied st a) t → ⊥
       by t o (inl k) c =
-          let had = h.remembered.none line class first (before_too (slice_index_or before.least.items line 0) (slice_index_or after.least.items line 0) l (f.less line)) in
+          let had = h.remembered.none line class first (was_before line class l) in
           let now = old_none t.line class k first (subst (λ (n : ℕ). class < slice_index_or after.least.items n 0) (sym o.same_line) l) (subst (λ (n : ℕ). HasNone s.sizes st s.rules n class) (sym o.same_line) had) in
           (subst (λ (n : ℕ). HasNone s.sizes (applied st a) s.rules n class) o.same_line now).none t o c
       by t o (inr k) c = clash line st.next (was_given line (some class (slice_index_or after.least.items line 0) l)) (subst (λ (n : ℕ). st.next ≤ n) o.same_line k)
 
+  -- a pair with notes that is still remembered is refused by them, as long as their lines are on the front
+  noted_after : (line class : ℕ) (held : Vec Note Global) → 1 ≤ class → class < slice_index_or after.least.items line 0 → get turn_cmp after.notes (class, line) ≡ Some held → AreOnFront (applied st a) held.items
+      → IsRefusedBy s.sizes (applied st a) s.rules line class held.items
+  noted_after line class held first l has on = by (f.pairs line class l)
+    where
+      Refused : Vec Note Global → Type 0
+      Refused ns = IsRefusedBy s.sizes (applied st a) s.rules line class ns.items
+
+      -- what the pair is refused by is what it has
+      same : IsNotedAt after.notes s (applied st a) line class → Refused held
+      same noted = subst Refused (same_Some noted.held held (sym noted.has ∙ has)) noted.refused
+
+      missed : get turn_cmp before.notes (class, line) ≡ Some held → IsFarLine s.sizes st (slice_index_or before.reaches.items class 0) f.area.lo f.area.hi line → class < length before.reaches.items → Refused held
+      missed was far tried =
+          missed_refused s b st a f.area r m rising f.holds line class (slice_index_or before.reaches.items class 0) held.items (all_map (IsCoveredAt class (slice_index_or before.reaches.items class 0)) IsRule (λ x i. i.rule) s.rules (h.covers.covers class tried))
+          (h.covers.covers class tried) far on (h.noted.refused line class held first (was_before line class l) was (stood s b st a f.area r m rising f.holds held.items on))
+
+      -- an old line of that number
+      old : (other : Triple) → other.0 ≡ line → Contains st.front other → get turn_cmp before.notes (class, line) ≡ Some held → Refused held
+      old other e c was = here k.how
+        where
+          k : IsStillRegion s (applied st a) before after st.points f.area other class
+          k = still_region other class c first (subst (λ (n : ℕ). class < slice_index_or after.least.items n 0) (sym e) l)
+
+          here : (is_hit f.area k.entry ≡ false) ⊎ IsNotedAt after.notes s (applied st a) other.0 class → Refused held
+          here (inl far) = missed was (subst (IsFarLine s.sizes st (slice_index_or before.reaches.items class 0) f.area.lo f.area.hi) e (far_region other class c k far)) k.region.tried
+          here (inr noted) = same (subst (λ (n : ℕ). IsNotedAt after.notes s (applied st a) n class) e noted)
+
+      by : (get turn_cmp after.notes (class, line) ≡ get turn_cmp before.notes (class, line)) ⊎ IsNotedAt after.notes s (applied st a) line class → Refused held
+      by (inr noted) = same noted
+      by (inl e) = record { excused = λ t o allowed fits. each t o (old_or_new st a t.line o.on_front) allowed fits }
+        where
+          each : (t : Attempt) → IsOf s.sizes (applied st a) s.rules line class t → Contains st.front t.line ⊎ (st.next ≤ t.line.0) → IsAllowed (applied st a) t → FitsFront (applied st a) t → IsExcused (applied st a) held.items t
+          each t o (inl c) allowed fits = (old t.line o.same_line c (sym e ∙ has)).excused t o allowed fits
+          each t o (inr k) allowed fits = absurd (clash line st.next (was_given line (some class (slice_index_or after.least.items line 0) l)) (subst (λ (n : ℕ). st.next ≤ n) o.same_line k))
+
   -- and the region is one in the later state
   has_after : (line : Triple) (class : ℕ) → Contains (applied st a).front line → 1 ≤ class → class < slice_index_or after.least.items line.0 0 → HasRegion after s.sizes (applied st a).points line class
-  has_after line class c first l = by (old_or_new line c)
+  has_after line class c first l = by (old_or_new st a line c)
     where
       by : Contains st.front line ⊎ (st.next ≤ line.0) → HasRegion after s.sizes (applied st a).points line class
       by (inl k) =
           let places = kept_place st a line r.numbered.lines_listed k in
-          let i = missed line class k first l in
+          let i = still_region line class k first l in
           record {
             entry = i.entry;
             there = i.there;
@@ -215,7 +258,7 @@ module _ (s : RunSetting) (b : List Edge) (st : State) (a : Application) (before
 
   -- and each entry that is left is of a line that is or was there
   own_after : (e : Entry Region) → Contains after.regions.entries e → IsOfLine after.reaches.items s.sizes (applied st a) e
-  own_after e c = record { given = below e.value.line st.next (applied st a).next was.given (next_on (with_points st a.made) a.elements); box = λ line on same. by line same (old_or_new line on) }
+  own_after e c = record { given = below e.value.line st.next (applied st a).next was.given (next_on (with_points st a.made) a.elements); box = λ line on same. by line same (old_or_new st a line on) }
     where
       was : IsOfLine before.reaches.items s.sizes st e
       was = h.reaching.own e (f.fewer e c)
@@ -242,18 +285,19 @@ module _ (s : RunSetting) (b : List Edge) (st : State) (a : Application) (before
       regions = has_after;
       own = own_after;
     };
+    noted = record { refused = noted_after };
   }
     where
       below : (line next more : ℕ) → line < next → next ≤ more → line < more
       below line next more l k = omega arith
 
   -- ---- each line is still to be tried
-  -- what is to be tried after the lines of which something was forgotten, and after the new lines, are put on
+  -- what is to be tried after the new lines, and after the lines of which something was forgotten, are put on
   pub still_to_try : (was left now : Option (BTreeSet (ℕ × ℕ))) → IfSome was (λ work. AreToTry work st.front before.least.items s.last)
-      → AreTriedAgain (record { least = before.least.items; work = was }) (record { least = after.least.items; work = left }) → AreTriedFirst st.next (applied st a).next left now
+      → AreTriedFirst st.next (applied st a).next was left → AreTriedAgain (record { least = before.least.items; work = left }) (record { least = after.least.items; work = now })
       → IfSome now (λ work. AreToTry work (applied st a).front after.least.items s.last)
-  still_to_try was left None to_try again new = tt
-  still_to_try was left (Some work) to_try again new = record { each = λ line c l. by line c l (old_or_new line c) }
+  still_to_try was left None to_try new again = tt
+  still_to_try was left (Some work) to_try new again = record { each = λ line c l. by line c l (old_or_new st a line c) }
     where
       at_first : (line : ℕ) → slice_index_or after.least.items line 0 ≡ 0 → IsToTry work (1, line) → IsToTry work (least_open after.least.items line, line)
       at_first line e on = subst (λ (n : ℕ). IsToTry work (max 1 n, line)) (sym e) on
@@ -274,30 +318,30 @@ module _ (s : RunSetting) (b : List Edge) (st : State) (a : Application) (before
       by : (line : Triple) → Contains (applied st a).front line → least_open after.least.items line.0 ≤ s.last → Contains st.front line ⊎ (st.next ≤ line.0) → IsToTry work (least_open after.least.items line.0, line.0)
       by line c l (inl k) = here (again.again line.0)
         where
-          here : (slice_index_or after.least.items line.0 0 ≡ slice_index_or before.least.items line.0 0) ⊎ IsOn left (least_open after.least.items line.0, line.0) → IsToTry work (least_open after.least.items line.0, line.0)
-          here (inl e) = same was left to_try again.stay new.stay line k l e
-          here (inr on) = still_on left (Some work) (least_open after.least.items line.0, line.0) new.stay on
+          here : (slice_index_or after.least.items line.0 0 ≡ slice_index_or before.least.items line.0 0) ⊎ IsOn (Some work) (least_open after.least.items line.0, line.0) → IsToTry work (least_open after.least.items line.0, line.0)
+          here (inl e) = same was left to_try new.stay again.stay line k l e
+          here (inr on) = on
       by line c l (inr k) = here (split (slice_index_or after.least.items line.0 0))
         where
           here : (slice_index_or after.least.items line.0 0 ≡ 0) ⊎ (0 < slice_index_or after.least.items line.0 0) → IsToTry work (least_open after.least.items line.0, line.0)
-          here (inl z) = at_first line.0 z (new.again line.0 k (below_next (applied st a).front (applied st a).next line (rising_on (with_points st a.made) a.elements rising) c))
+          here (inl z) = at_first line.0 z (still_tried left (Some work) (1, line.0) again.stay (new.again line.0 k (below_next (applied st a).front (applied st a).next line (rising_on (with_points st a.made) a.elements rising) c)))
           here (inr p) = absurd (clash line.0 st.next (was_given line.0 p) k)
 
 pub remembers_after : (p : RunParts) (a : Application) (same after : FrontState) (applications : List Application) (before left : Refusals) (was kept now : Option (BTreeSet (ℕ × ℕ))) → DoesRemember (run_of p) before was
     → IsNext (setting_by (run_of p).basis) (run_of p).state a → IsFrontState same → MayBeApplied (state_of same) a → IsPushed p a same after applications
-    → IsForgottenNear (same.points ++ a.made) a.elements before left → AreTriedAgain (record { least = before.least.items; work = was }) (record { least = left.least.items; work = kept }) → AreTriedFirst same.next after.next kept now
+    → IsForgottenNear (setting_by (run_of p).basis) (applied (state_of same) a) (same.points ++ a.made) a.elements before left → AreTriedFirst same.next after.next was kept → AreTriedAgain (record { least = before.least.items; work = kept }) (record { least = left.least.items; work = now })
     → DoesRemember (run_of (record p { front = after; applications = applications })) left now
-remembers_after p a same after applications before left was kept now h next front may pushed f again new =
+remembers_after p a same after applications before left was kept now h next front may pushed f new again =
     let s = setting_by (run_of p).basis in
     let here = same_true s before (run_of p).state (state_of same) (record { points = sym pushed.equal.points; front = sym pushed.equal.lines }) pushed.equal.next h.remembered in
     let reached = of_front same front in
     let later = still_true s (edges_of same) (state_of same) a before left reached may front.rising here f in
     let on = subst (λ (lines : List Triple). IfSome was (λ work. AreToTry work lines before.least.items s.last)) (sym pushed.equal.lines) h.to_try in
-    let first = subst (λ (n : ℕ). AreTriedFirst same.next n kept now) pushed.put.next new in
+    let first = subst (λ (n : ℕ). AreTriedFirst same.next n was kept) pushed.put.next new in
     record {
       is_run = put_holds p a same after applications h.is_run next may pushed;
       remembered = same_true s left (applied (state_of same) a) (run_of (record p { front = after; applications = applications })).state
           (record { points = same_points (with_points (state_of same) a.made) a.elements ∙ sym pushed.put.points; front = sym pushed.put.lines }) pushed.put.next later;
       to_try = subst (λ (lines : List Triple). IfSome now (λ work. AreToTry work lines left.least.items s.last)) (sym pushed.put.lines)
-          (still_to_try s (edges_of same) (state_of same) a before left reached may front.rising here f was kept now on again first);
+          (still_to_try s (edges_of same) (state_of same) a before left reached may front.rising here f was kept now on first again);
     }

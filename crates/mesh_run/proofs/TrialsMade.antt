@@ -45,21 +45,29 @@ same_due last before after [] h = refl
 same_due last before after (line ∷ front) h = λ i. (last + 1 - max 1 (h.each line.0 i)) + same_due last before after front h i
 
 -- all is due where nothing is remembered
-pub all_due : (last n : ℕ) (refused : List ℕ) (lines : List (ℕ × ℕ)) → refused ≡ [] → due last refused (numbered_from n lines) ≡ last * length lines
-all_due last n refused [] e = none last
+pub nothing_due : (last : ℕ) (refused : List ℕ) (front : List Triple) → refused ≡ [] → due last refused front ≡ last * length front
+nothing_due last refused [] e = none last
   where
     none : (m : ℕ) → 0 ≡ m * 0
     none m = omega arith
-all_due last n refused (line ∷ lines) e = added (due last refused (numbered_from (n + 1) lines)) (length lines) here (all_due last (n + 1) refused lines e)
+nothing_due last refused (line ∷ front) e = added (due last refused front) (length front) here (nothing_due last refused front e)
   where
-    here : last + 1 - max 1 (slice_index_or refused n 0) ≡ last
-    here = by (slice_index_or refused n 0) (ap (λ (table : List ℕ). slice_index_or table n 0) e ∙ get_or_past {X = ℕ} [] n 0 (omega arith))
+    here : last + 1 - max 1 (slice_index_or refused line.0 0) ≡ last
+    here = by (slice_index_or refused line.0 0) (ap (λ (table : List ℕ). slice_index_or table line.0 0) e ∙ get_or_past {X = ℕ} [] line.0 0 (omega arith))
       where
         by : (m : ℕ) → m ≡ 0 → last + 1 - max 1 m ≡ last
         by m z = omega (arith, z)
 
-    added : (d k : ℕ) → last + 1 - max 1 (slice_index_or refused n 0) ≡ last → d ≡ last * k → last + 1 - max 1 (slice_index_or refused n 0) + d ≡ last * suc k
+    added : (d k : ℕ) → last + 1 - max 1 (slice_index_or refused line.0 0) ≡ last → d ≡ last * k → last + 1 - max 1 (slice_index_or refused line.0 0) + d ≡ last * suc k
     added d k f g = omega (arith, f, g)
+
+-- so of lines that are numbered from one number on
+pub all_due : (last n : ℕ) (refused : List ℕ) (lines : List (ℕ × ℕ)) → refused ≡ [] → due last refused (numbered_from n lines) ≡ last * length lines
+all_due last n refused lines e = nothing_due last refused (numbered_from n lines) e ∙ ap (λ (k : ℕ). last * k) (as_many n lines)
+  where
+    as_many : (n : ℕ) (lines : List (ℕ × ℕ)) → length (numbered_from n lines) ≡ length lines
+    as_many n [] = refl
+    as_many n (line ∷ lines) = ap suc (as_many (n + 1) lines)
 
 -- ---- a turn that is tried
 module _ (last : ℕ) (before : List ℕ) (front : List Triple) (turn : ℕ × ℕ) (is_open : IsOpenTurn front before last turn) where

@@ -1,5 +1,5 @@
 -- Turns come by class, then by line: what comes before the first turn on the worklist is refused, since else it would be on the worklist.
-use Rattle.std.proofs.Common.{◌≡◌, ℕ, ◌+◌, ◌-◌, ◌<◌, ◌≤◌, ◌⊎◌, inl, inr, max, Bool, true, false, cond, List, [], ◌∷◌, slice_index_or, refl, sym, ap, ◌∙◌, subst, arith, Option, None, Some, is_some, nat_cmp, is_gt, is_eq, Ordering, Less, Equal, Greater, BTreeSet}
+use Rattle.std.proofs.Common.{◌≡◌, ◌≢◌, ℕ, ◌+◌, ◌-◌, ◌<◌, ◌≤◌, ◌⊎◌, inl, inr, max, Bool, true, false, cond, List, [], ◌∷◌, slice_index_or, refl, sym, ap, ◌∙◌, subst, arith, Option, None, Some, is_some, nat_cmp, is_gt, is_eq, Ordering, Less, Equal, Greater, BTreeSet}
 use Rattle.std.specs.List.{Contains, list_any}
 use Rattle.std.specs.Ordering.{ordering_then, match_ordering}
 use Rattle.std.specs.BTreeMap.{is_at}
@@ -55,6 +55,13 @@ same_turn k q = by (nat_cmp k.0 q.0) refl (nat_cmp k.1 q.1) refl
     by Equal e Equal f h = λ i. (sym (ranked k.0 q.0 Equal e) i, sym (ranked k.1 q.1 Equal f) i)
     by Equal e Greater f h = absurd (no h)
     by Greater e t f h = absurd (no h)
+
+pub other_turn : (k q : Turn) → q ≢ k → is_eq (turn_cmp k q) ≡ false
+other_turn k q h = by (is_eq (turn_cmp k q)) refl
+  where
+    by : (b : Bool) → is_eq (turn_cmp k q) ≡ b → is_eq (turn_cmp k q) ≡ false
+    by true e = absurd (h (same_turn k q e))
+    by false e = e
 
 -- ---- turns that come and go
 -- a turn that is put on is there, and each other one stays

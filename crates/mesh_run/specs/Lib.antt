@@ -16,6 +16,8 @@ pub mod RunState
 -- Worklist: the classes and lines that are to be tried. Remembered: refusals that a run remembers.
 pub mod Worklist
 pub mod Remembered
+-- Kept: refused pairs that are kept with their notes.
+pub mod Kept
 -- Trials: how many trials a run makes, and how many are due.
 pub mod Trials
 pub mod Sum

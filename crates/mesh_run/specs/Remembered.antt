@@ -7,17 +7,18 @@
 -- AreCovering     reaches by class, each of which covers the rules up to its class
 -- IsRegion        an entry is the region of a line at a class; HasRegion, a line has one
 -- AreReaching     each class that is remembered of a front line has a region, and each region is of such a line (IsOfLine)
--- AreTrue         all of these; IsEmpty, nothing is remembered
+-- AreTrue         all of these, and notes hold; IsEmpty, nothing is remembered
 -- IsInArea        a place lies in a closed box; IsWider, a box holds another one; HoldsCorners, it holds the corners of elements
 -- AreStill        entries that stay
 -- AreHits         the entries whose boxes meet the box of an application's elements
--- IsForgotten     what is remembered once an entry is forgotten; AreForgotten, once a list of entries is
--- IsForgottenNear what is remembered after forgetting near an application's elements
+-- IsGone          nothing is remembered by an entry; AreDropped, such entries are dropped
+-- IsForgottenNear what is remembered after looking again near an application's elements
 -- IsNoted         one more refusal is remembered; AreSameRefusals, none is
 -- setting_in      what is searched; state_in, the state that is looked at
 -- DoesRemember    a run keeps its state, what it remembers is true, and its front lines are to be tried
 -- IsApartFrom     an application's elements lie in a box apart from another one
 use Rattle.std.specs.Prelude.{ℕ, ◌≡◌, ◌≢◌, ◌⊎◌, ◌≤◌, ◌<◌, ◌≤ℤ◌, false, List, [], ◌++◌, length, map, slice_index_or, filter, Option, IfSome}
+use Rattle.std.specs.BTreeMap.{get}
 use Rattle.std.specs.BTreeSet.{BTreeSet}
 use Rattle.std.specs.List.{All, AllByRecursion, Contains}
 use Rattle.grid_geom.specs.declared.Bounds.{Bounds}
@@ -37,7 +38,8 @@ use Rattle.mesh_run.specs.declared.refusals.Refusals.{Refusals}
 use Rattle.mesh_run.specs.declared.refusals.Region.{Region}
 use Rattle.mesh_run.specs.declared.search.Scene.{Scene}
 use Rattle.mesh_run.specs.Steps.{RunSetting}
-use Rattle.mesh_run.specs.Worklist.{AreToTry}
+use Rattle.mesh_run.specs.Kept.{AreNoted, IsLookedAgain, IsNotedAt}
+use Rattle.mesh_run.specs.Worklist.{AreToTry, turn_cmp}
 use Rattle.mesh_run.specs.RunState.{RunState, IsRunState, setting_by}
 
 -- ---- what is remembered
@@ -46,10 +48,10 @@ pub record AreRemembered (refused : List ℕ) (s : RunSetting) (st : State) : Ty
   pub none : (line class : ℕ) → 1 ≤ class → class < slice_index_or refused line 0
       → HasNone s.sizes st s.rules line class
 
--- the reach at each class up to 16 covers the rules up to the class, and is no greater than a
+-- there is a reach for each class up to 16. It covers the rules up to the class, and is no greater than a
 -- number that covers them at all classes
 pub record AreCovering (rules : List Rule) (reaches : List ℕ) : Type 0 where
-  pub long : 16 < length reaches
+  pub long : length reaches ≡ 17
   pub no_greater : (class : ℕ) → class < length reaches → (n : ℕ)
       → AllByRecursion (IsCoveredBy n) rules → slice_index_or reaches class 0 ≤ n
   pub covers : (class : ℕ) → class < length reaches
@@ -97,11 +99,13 @@ pub record AreTrue (m : Refusals) (s : RunSetting) (st : State) : Type 0 where
   pub remembered : AreRemembered m.least.items s st
   pub covers : AreCovering s.rules m.reaches.items
   pub reaching : AreReaching m s.sizes st
+  pub noted : AreNoted m s st
 
 -- nothing is remembered, and the reaches are these
 pub record IsEmpty (reaches : List ℕ) (m : Refusals) : Type 0 where
   pub nothing : m.least.items ≡ []
   pub no_regions : m.regions.entries ≡ []
+  pub no_notes : m.notes.entries ≡ []
   pub reaches_are : m.reaches.items ≡ reaches
 
 -- as much is remembered of each line
@@ -143,6 +147,10 @@ HoldsCorners points elements box =
     All (λ ns. All (λ n. IsInArea box (point_at points n)) ns) elements
 
 -- ---- what is forgotten
+-- of the entry's line nothing is remembered from its class on
+abbrev pub IsGone : Refusals → Entry Region → Type 0
+IsGone m e = slice_index_or m.least.items e.value.line 0 ≤ e.value.class
+
 -- each entry of before is there
 pub record AreStill (before after : List (Entry Region)) : Type 0 where
   pub each : (e : Entry Region) → Contains before e → Contains after e
@@ -164,40 +172,23 @@ pub record HasEntryOf (es : List (Entry Region)) (line : ℕ) : Type 0 where
   pub there : Contains es entry
   pub of_line : entry.value.line ≡ line
 
--- of no line more is remembered, of the entry's line nothing from its class on, and of each other
--- line as much as before; entries with other keys stay, and none comes
-pub record IsForgotten (e : Entry Region) (before after : Refusals) : Type 0 where
+-- entries of which nothing is remembered any more are dropped: no entry comes, each is still there or of its
+-- line nothing is remembered from its class on, and nothing else changes
+pub record AreDropped (before after : Refusals) : Type 0 where
   pub reaches : after.reaches.items ≡ before.reaches.items
-  pub less : (line : ℕ)
-      → slice_index_or after.least.items line 0 ≤ slice_index_or before.least.items line 0
-  pub forgotten : slice_index_or after.least.items e.value.line 0 ≤ e.value.class
-  pub kept : (line : ℕ)
-      → (slice_index_or after.least.items line 0 ≡ slice_index_or before.least.items line 0)
-      ⊎ (e.value.line ≡ line)
-  pub fewer : (other : Entry Region) → Contains after.regions.entries other
-      → Contains before.regions.entries other
-  pub others : (other : Entry Region) → Contains before.regions.entries other
-      → other.key ≢ e.key → Contains after.regions.entries other
+  pub least : after.least.items ≡ before.least.items
+  pub notes : after.notes ≡ before.notes
+  pub fewer : (e : Entry Region) → Contains after.regions.entries e
+      → Contains before.regions.entries e
+  pub stay : (e : Entry Region) → Contains before.regions.entries e
+      → Contains after.regions.entries e ⊎ IsGone before e
 
--- so it is with these entries
-pub record AreForgotten (es : List (Entry Region)) (before after : Refusals) : Type 0 where
-  pub reaches : after.reaches.items ≡ before.reaches.items
-  pub less : (line : ℕ)
-      → slice_index_or after.least.items line 0 ≤ slice_index_or before.least.items line 0
-  pub forgotten : All (λ e. slice_index_or after.least.items e.value.line 0 ≤ e.value.class) es
-  pub kept : (line : ℕ)
-      → (slice_index_or after.least.items line 0 ≡ slice_index_or before.least.items line 0)
-      ⊎ HasEntryOf es line
-  pub fewer : (other : Entry Region) → Contains after.regions.entries other
-      → Contains before.regions.entries other
-  pub others : (other : Entry Region) → Contains before.regions.entries other
-      → All (λ e. other.key ≢ e.key) es → Contains after.regions.entries other
-
--- what is remembered after the entries are forgotten whose boxes meet the area, the least box of
--- the corners of the elements. Of no line more is remembered, and of a line of none of these
--- entries as much as before; for each entry of before, of its line nothing is from its class on, or
--- its box doesn't meet the area, and it is still there; and no entry comes
-pub record IsForgottenNear (points : List Point) (elements : List (List ℕ)) (before after : Refusals) : Type 0 where
+-- what is remembered in the later state after entries are looked at again whose boxes meet the area,
+-- the least box of the corners of the elements. Of no line more is remembered, and of a line of none of
+-- these entries as much as before; for each entry of before, of its line nothing is from its class on,
+-- or it is still there, and its box doesn't meet the area or its line was looked at again; and no entry comes.
+-- A pair that is still remembered has the notes of before, or is refused by those that it has
+pub record IsForgottenNear (s : RunSetting) (later : State) (points : List Point) (elements : List (List ℕ)) (before after : Refusals) : Type 0 where
   pub area : Bounds
   pub holds : HoldsCorners points elements area
   pub on_grid : DoBoundsMeet area whole_grid
@@ -209,11 +200,14 @@ pub record IsForgottenNear (points : List Point) (elements : List (List ℕ)) (b
   pub kept : (line : ℕ)
       → (slice_index_or after.least.items line 0 ≡ slice_index_or before.least.items line 0)
       ⊎ HasEntryOf (filter (is_hit area) before.regions.entries) line
-  pub each : (e : Entry Region) → Contains before.regions.entries e
-      → (slice_index_or after.least.items e.value.line 0 ≤ e.value.class)
-      ⊎ ((is_hit area e ≡ false) × Contains after.regions.entries e)
+  pub each : (e : Entry Region) → Contains before.regions.entries e → IsGone after e
+      ⊎ (Contains after.regions.entries e
+      × ((is_hit area e ≡ false) ⊎ IsLookedAgain after s later e.value))
   pub fewer : (e : Entry Region) → Contains after.regions.entries e
       → Contains before.regions.entries e
+  pub pairs : (line class : ℕ) → class < slice_index_or after.least.items line 0
+      → (get turn_cmp after.notes (class, line) ≡ get turn_cmp before.notes (class, line))
+      ⊎ IsNotedAt after.notes s later line class
 
 -- ---- what is searched
 -- what a search stands on, and the state that it looks at

@@ -26,6 +26,7 @@ mod ground;
 pub mod laws;
 mod left;
 mod lists;
+mod looked_again;
 mod mesh;
 mod numbering;
 mod opening;

@@ -4,6 +4,7 @@ ghost use Rattle.std.specs.List.{Contains};
 ghost use Rattle.digital_tree.specs.declared.Entry.{Entry};
 ghost use Rattle.front_chain.specs.Front.{line_at};
 ghost use Rattle.rule_match.specs.Least.{HasNone};
+ghost use Rattle.rule_match.specs.Refused.{IsRefusedBy};
 ghost use Rattle.mesh_run.specs.Remembered.{AreCovering, AreSameRefusals, AreStill, AreTrue, HasRegion, IsEmpty, IsNoted, IsOfLine, setting_in, state_in};
 ghost use Rattle.mesh_run.specs.Trials.{due_in};
 ghost use Rattle.mesh_run.specs.Worklist.{IsOpenTurn, least_open};
@@ -11,8 +12,9 @@ ghost use Rattle.mesh_run.specs.Worklist.{IsOpenTurn, least_open};
 use super::search::Scene;
 use digital_tree::Tree;
 use rule_maps::RuleSet;
-use rule_match::{greatest_reach_at, reach_box};
+use rule_match::{Note, greatest_reach_at, reach_box};
 use std::alloc::{AllocError as OutOfMemory, Global};
+use std::collections::BTreeMap;
 
 /// What was looked at to refuse a line: where nothing changes in the box of a region, the line has no
 /// candidate from the region's class on, as far as is remembered.
@@ -31,10 +33,15 @@ pub struct Refusals {
     pub reaches: Vec<u64>,
     /// The boxes of what was looked at.
     pub regions: Tree<Region>,
+    /// Why lines are refused at classes, as far as it was noted.
+    pub notes: Notes,
 }
 
+/// By class and line, the notes of a refusal: front lines that hinder attempts, each beside a mapped point.
+pub type Notes = BTreeMap<(u32, u64), Vec<Note>>;
+
 /// A run tries classes up to this one at most.
-const LAST_CLASS: u32 = 16;
+pub const LAST_CLASS: u32 = 16;
 
 /// By class, how far the rules reach up to it: no farther than at all classes.
 pub fn reaches_of(alloc: Global, rules: &RuleSet<'_>) -> Result<Vec<u64>, OutOfMemory>
@@ -55,7 +62,17 @@ pub fn no_refusals(alloc: Global, reaches: &[u64]) -> Result<Refusals, OutOfMemo
         least: Vec::new(alloc),
         reaches: reaches.to_vec(alloc)?,
         regions: Tree::new(alloc),
+        notes: BTreeMap::new(alloc),
     })
+}
+
+/// Nothing is remembered any more.
+pub fn forget_all(alloc: Global, refusals: &mut Refusals)
+    ensures { IsEmpty refusals.old.reaches.items refusals.new }
+{
+    refusals.least = Vec::new(alloc);
+    refusals.regions = Tree::new(alloc);
+    refusals.notes = BTreeMap::new(alloc);
 }
 
 /// Makes the table so long that the place is in it. What stands in it stays.
@@ -92,7 +109,7 @@ pub fn noted_at(table: &[u64], place: u64) -> u64
 }
 
 /// The reach that covers the rules up to the class.
-fn reach_at(refusals: &Refusals, class: u32) -> u64
+pub fn reach_at(refusals: &Refusals, class: u32) -> u64
     ensures { result ≡ slice_index_or refusals.now.reaches.items class 0 }
 {
     noted_at(refusals.reaches.as_slice(), class as u64)
@@ -121,6 +138,7 @@ fn hold(
     requires remembered { AreTrue refusals.old (setting_in scene.now) (state_in scene.now) }
     ensures least { refusals.new.least.items ≡ refusals.old.least.items }
     ensures reaches { refusals.new.reaches.items ≡ refusals.old.reaches.items }
+    ensures notes { refusals.new.notes ≡ refusals.old.notes }
     ensures stay { AreStill refusals.old.regions.entries refusals.new.regions.entries }
     ensures own { (e : Entry Region) → Contains refusals.new.regions.entries e →
         IsOfLine refusals.new.reaches.items scene.now.sizes.now (state_in scene.now) e }
@@ -139,18 +157,22 @@ fn hold(
     Ok(())
 }
 
-/// Remembers that a front line has no candidate up to a class, the first one that isn't remembered of it.
+/// Remembers that a front line has no candidate up to a class, the first one that isn't remembered of it,
+/// with the notes by which it is refused there.
 pub fn remember(
     scene: &Scene<'_, '_>,
     refusals: &mut Refusals,
     class: u32,
     line: u64,
+    notes: Vec<Note>,
 ) -> Result<(), OutOfMemory>
     requires on_front { IsSome (line_at scene.now.front.now.lines line) }
     requires last_class { class ≤ 16 }
     requires first { class ≤ least_open refusals.old.least.items line }
     requires none { (n : ℕ) → 1 ≤ n → n ≤ class → HasNone scene.now.sizes.now
         (state_in scene.now) scene.now.rules.now line n }
+    requires refused { IsRefusedBy scene.now.sizes.now (state_in scene.now) scene.now.rules.now
+        line class notes.items }
     requires remembered { AreTrue refusals.old (setting_in scene.now) (state_in scene.now) }
     ensures remembered { AreTrue refusals.new (setting_in scene.now) (state_in scene.now) }
     ensures noted { IsNoted refusals.old.least.items refusals.new.least.items line (class + 1) }
@@ -163,5 +185,8 @@ pub fn remember(
 {
     let _lines = scene.front.lines();
     hold(scene, refusals, class, line)?;
+    if let Err(_) = refusals.notes.insert((class, line), notes) {
+        return Err(OutOfMemory);
+    }
     note(&mut refusals.least, line, class as u64 + 1)
 }

@@ -12,10 +12,11 @@ ghost use Rattle.mesh_run.specs.Trials.{DoesPay, DoesPayAll, IsPaid};
 use super::applying::{copy_of, put};
 use super::ground::Ground;
 use super::left::{points_of, rows_of};
+use super::looked_again::{Change, look_at_all};
 use super::opening::{number_mesh, opening_of};
-use super::refusals::{Refusals, no_refusals, reaches_of};
+use super::refusals::{Refusals, forget_all, no_refusals, reaches_of};
 use super::search::{Scene, find_next};
-use super::touched::{forget_all, hits_near};
+use super::touched::{drop_forgotten, drop_stale, hits_near};
 use super::worklist::Worklist;
 use super::{Application, Applications, DomainRun, End, FrontRows, OpeningLines, Options, Stepped};
 use front_chain::Front;
@@ -214,8 +215,27 @@ impl<'a> Run<'a> {
         let _rule = self.rules.get(application.rule).rule();
         let _reach = reach_box(&self.front, &self.sizes, application.line, 0);
         let hits = hits_near(alloc, &self.refusals, &self.front, &application)?;
-        forget_all(&mut self.refusals, &mut self.work, hits.as_slice());
+        drop_stale(&mut self.refusals.notes, &self.front, hits.as_slice());
+        let change = Change {
+            points: self.front.points(),
+            first: self.front.next_number(),
+        };
         put(&mut self.front, &mut self.work, &application);
+        let scene = Scene {
+            front: &self.front,
+            sizes: &self.sizes,
+            rules: self.rules,
+            last: self.options.last,
+        };
+        look_at_all(
+            alloc,
+            &scene,
+            &change,
+            &mut self.refusals,
+            &mut self.work,
+            hits.as_slice(),
+        );
+        drop_forgotten(&mut self.refusals, hits.as_slice());
         self.applications.push_reserved(application);
         Ok(copy)
     }
@@ -246,6 +266,17 @@ impl<'a> Run<'a> {
             None => Ok(Stepped::Stuck),
             Some(application) => Ok(Stepped::Applied(self.apply(alloc, application)?)),
         }
+    }
+
+    /// Forgets which lines were refused, and gives the memory for it back: the next step tries each front line
+    /// at each class. What the run does from here on is the same, and only takes longer.
+    pub fn forget(&mut self, alloc: Global)
+        ensures stands { self.new.run ≡ self.old.run }
+        ensures due { self.new.due
+            ≡ self.old.run.basis.options.last * length self.old.run.state.front }
+    {
+        forget_all(alloc, &mut self.refusals);
+        self.work = None;
     }
 
     /// Whether as many applications were made as are allowed.

@@ -10,7 +10,7 @@ use super::refusals::{Refusals, remember};
 use super::worklist::{Worklist, is_open, move_on, take_first, worklist_from};
 use front_chain::Front;
 use rule_maps::RuleSet;
-use rule_match::best;
+use rule_match::best_noted;
 use size_field::Sizes;
 use std::alloc::{AllocError as OutOfMemory, Global};
 use std::sync::ledger::Ledger;
@@ -60,12 +60,22 @@ fn try_turn<L: Ledger>(
 {
     let (class, line) = turn;
     let (front, sizes) = (scene.front, scene.sizes);
-    let found = best(alloc, front, sizes, scene.rules, line, class, steps)?;
+    let mut notes = Vec::new(alloc);
+    let found = best_noted(
+        alloc,
+        front,
+        sizes,
+        scene.rules,
+        line,
+        class,
+        steps,
+        &mut notes,
+    )?;
     if found.is_some() {
         work.insert(turn)?;
         return Ok(found);
     }
-    remember(scene, refusals, class, line)?;
+    remember(scene, refusals, class, line, notes)?;
     move_on(work, turn, scene.last)?;
     Ok(None)
 }

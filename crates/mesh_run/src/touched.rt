@@ -1,19 +1,25 @@
 // What an application touches, and what is forgotten of it.
-ghost use Rattle.std.specs.Prelude.{ℤ, ◌≡◌, ◌≤ℤ◌, ◌++◌, length, All, IfOk};
-ghost use Rattle.std.specs.List.{AllByRecursion};
+ghost use Rattle.std.specs.Prelude.{ℤ, ◌≡◌, ◌≤◌, ◌≤ℤ◌, ◌++◌, length, slice_index_or, All, IfOk, Some, Vec, true, false};
+ghost use Rattle.std.specs.Global.{Global as AnyGlobal};
+ghost use Rattle.std.specs.BTreeMap.{get};
+ghost use Rattle.std.specs.List.{AllByRecursion, Contains};
+ghost use Rattle.rule_match.specs.declared.progress.Note.{Note as AnyNote};
 ghost use Rattle.grid_geom.specs.Boxes.{DoBoundsMeet};
 ghost use Rattle.grid_geom.specs.declared.Bounds.{Bounds as AnyBounds};
 ghost use Rattle.rule_match.specs.Near.{whole_grid};
 ghost use Rattle.state_law.specs.State.{IsListed, point_at};
-ghost use Rattle.mesh_run.specs.Worklist.{AreTriedAgain};
-ghost use Rattle.mesh_run.specs.Remembered.{AreForgotten, AreHits, IsForgotten, IsInArea, IsWider};
+ghost use Rattle.digital_tree.specs.Entries.{AreDifferent};
+ghost use Rattle.front_chain.specs.Front.{state_of};
+ghost use Rattle.mesh_run.specs.Worklist.{turn_cmp};
+ghost use Rattle.mesh_run.specs.Kept.{AreFewerNotes, AreOnFront, DoNotesStand};
+ghost use Rattle.mesh_run.specs.Remembered.{AreDropped, AreHits, IsInArea, IsWider};
 
 use super::Application;
-use super::refusals::{Refusals, Region, noted_at};
-use super::worklist::{Worklist, try_again};
+use super::refusals::{LAST_CLASS, Notes, Refusals, Region, noted_at};
 use digital_tree::{Entry, Key};
 use front_chain::Front;
 use grid_geom::{Bounds, Element, GRID, Point};
+use rule_match::Note;
 use std::alloc::{AllocError as OutOfMemory, Global};
 
 /// The lesser of two coordinates.
@@ -127,31 +133,69 @@ pub fn hits_near(
     Ok(hits)
 }
 
-/// Forgets what is known by looking at the entry's box, and has its line tried again from the entry's class
-/// on. What is known of the line at classes before that was looked for in other boxes.
-fn forget(refusals: &mut Refusals, work: &mut Option<Worklist>, hit: &Entry<Region>)
-    ensures forgotten { IsForgotten hit.now refusals.old refusals.new }
-    ensures again { AreTriedAgain
-        (record { least = refusals.old.least.items; work = work.old })
-        (record { least = refusals.new.least.items; work = work.new }) }
+/// Whether all lines that the notes name are on the front.
+fn do_stand(front: &Front, notes: &[Note]) -> bool
+    ensures { result ≡ true → AreOnFront (state_of front.now) notes.now }
 {
-    let _held = refusals.regions.remove(hit.key);
-    let Region { line, class } = hit.value;
-    if (class as u64) < noted_at(refusals.least.as_slice(), line) {
-        refusals.least[line as usize] = class as u64;
-        try_again(work, (class.max(1), line));
+    for note in notes {
+        if front.line(note.line).is_none() {
+            return false;
+        }
+    }
+    true
+}
+
+/// Whether the pair of class and line has notes that name a line which isn't on the front.
+fn is_stale(notes: &Notes, front: &Front, turn: (u32, u64)) -> bool
+    ensures { result ≡ false → (held : Vec AnyNote AnyGlobal) → get turn_cmp notes.now turn ≡ Some held →
+        AreOnFront (state_of front.now) held.items }
+{
+    match notes.get(&turn) {
+        Some(held) => !do_stand(front, held.as_slice()),
+        None => false,
     }
 }
 
-/// Forgets what is known by looking at these entries' boxes, and has the lines tried again of which
-/// something is forgotten. It takes no memory that it can't do without.
-pub fn forget_all(refusals: &mut Refusals, work: &mut Option<Worklist>, hits: &[Entry<Region>])
-    ensures forgotten { AreForgotten hits.now refusals.old refusals.new }
-    ensures again { AreTriedAgain
-        (record { least = refusals.old.least.items; work = work.old })
-        (record { least = refusals.new.least.items; work = work.new }) }
+/// Drops the notes of the region's line that name a line which isn't on the front.
+fn drop_stale_of(notes: &mut Notes, front: &Front, region: Region)
+    ensures fewer { AreFewerNotes notes.old notes.new }
+    ensures stand { DoNotesStand (state_of front.now) notes.new region }
+{
+    let Region { line, class } = region;
+    for n in class..LAST_CLASS + 1 {
+        if is_stale(notes, front, (n, line)) {
+            let _held = notes.remove(&(n, line));
+        }
+    }
+}
+
+/// Drops the notes that hold no more, of the lines of these entries from their classes on.
+pub fn drop_stale(notes: &mut Notes, front: &Front, hits: &[Entry<Region>])
+    ensures fewer { AreFewerNotes notes.old notes.new }
+    ensures stand { All (λ e. DoNotesStand (state_of front.now) notes.new e.value) hits.now }
 {
     for hit in hits {
-        forget(refusals, work, hit);
+        drop_stale_of(notes, front, hit.value);
+    }
+}
+
+/// Whether of the region's line nothing is remembered any more from its class on.
+fn is_gone(refusals: &Refusals, region: Region) -> bool
+    ensures { result ≡ true →
+        slice_index_or refusals.now.least.items region.line 0 ≤ region.class }
+{
+    noted_at(refusals.least.as_slice(), region.line) <= region.class as u64
+}
+
+/// Drops those of these entries by which nothing is remembered any more.
+pub fn drop_forgotten(refusals: &mut Refusals, hits: &[Entry<Region>])
+    requires different { AreDifferent refusals.old.regions.entries }
+    requires entries { All (Contains refusals.old.regions.entries) hits.now }
+    ensures { AreDropped refusals.old refusals.new }
+{
+    for hit in hits {
+        if is_gone(refusals, hit.value) {
+            let _held = refusals.regions.remove(hit.key);
+        }
     }
 }

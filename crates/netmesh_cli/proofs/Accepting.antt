@@ -19,7 +19,7 @@ use Rattle.netmesh_cli.specs.declared.outcome.Refusal.TheVariants.{Words, In2d, 
 use Rattle.netmesh_cli.specs.Accepted.{IsTextFault, IsGeometryText, IsGeometryFault, HasGeometry, HasRules, IsRulesFault, IsMeshText, IsMeshFault, HasState, IsStateFault}
 use Rattle.netmesh_cli.specs.Held.{HoldsGeometry}
 use Rattle.netmesh_cli.specs.Kinds.{Kind, AGeometry, ARuleFile, AMesh, AStateLog, Accepts, Rejects, CanReject, GeometryRejects, RulesRejects, HasMesh, VolRejects, MeshRejects, StateRejects}
-use Rattle.netmesh_cli.proofs.Excluded.{excluded, fault_once, text_once, text_fault_once, geometry_once, rules_once, rules_fault_once, mesh_fault_once, log_once, log_fault_once}
+use Rattle.netmesh_cli.proofs.Excluded.{excluded, fault_once, text_once, text_fault_once, geometry_once, rules_fault_once, mesh_fault_once, log_once, log_fault_once}
 
 -- ---- a geometry
 

@@ -3,7 +3,7 @@
 use Rattle.std.proofs.Common.{◌≡◌, ◌⊎◌, inl, inr, ℕ, ◌≤◌, ◌<◌, List, [], ◌∷◌, length, sym, subst, ap, refl, ◌∙◌, arith}
 use Rattle.std.specs.Prelude.{Option, Some, MatchOption}
 use Rattle.folder_io.specs.Causes.{Told}
-use Rattle.folder_io.specs.Names.{Files, Holds, IsLonger, IsMissing}
+use Rattle.folder_io.specs.Names.{Files, IsLonger, IsMissing}
 use Rattle.folder_io.specs.States.{FolderState}
 use Rattle.folder_io.proofs.Counts.{rose_from_earlier}
 use Rattle.call_words.specs.declared.words_fault.WordsFault.{WordsFault}

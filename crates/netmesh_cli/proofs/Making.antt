@@ -1,11 +1,10 @@
 -- What the verbs make of the files that they take, and why they make nothing: one section for a verb.
-use Rattle.std.proofs.Common.{◌≡◌, inl, inr, ℕ, ◌≤◌, List, [], ◌∷◌, length, sym, subst, ap, ◌∙◌}
+use Rattle.std.proofs.Common.{◌≡◌, inl, inr, ℕ, ◌≤◌, List, [], ◌∷◌, length, subst, ◌∙◌}
 use Rattle.std.specs.Prelude.{Option, ℤ}
 use Rattle.folder_io.specs.Causes.{Told}
 use Rattle.folder_io.specs.Names.{Files}
 use Rattle.folder_io.specs.States.{FolderState}
 use Rattle.in2d_reader.specs.declared.geometry.RawGeometry.{RawGeometry}
-use Rattle.rule_reader.specs.declared.rule.Rule.{Rule}
 use Rattle.geom_check.specs.Geometry.{PlanarMap}
 use Rattle.mesh_run.specs.declared.WholeRun.{WholeRun}
 use Rattle.vol_format.specs.declared.Mesh.{Mesh}

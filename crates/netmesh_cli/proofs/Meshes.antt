@@ -8,7 +8,7 @@ use Rattle.grid_geom.specs.Bounds.{IsOnGrid}
 use Rattle.vol_format.specs.declared.EdgeRow.{EdgeRow}
 use Rattle.vol_format.specs.declared.MeshElement.{MeshElement}
 use Rattle.vol_format.specs.declared.Mesh.{Mesh}
-use Rattle.vol_format.specs.Text.{Item, Names, Known, Derives, InRanges, mesh_items, element_items, edge_items, corner_items, counted_items, edges_part, points_part}
+use Rattle.vol_format.specs.Text.{Item, Names, Known, Derives, element_items, edge_items, corner_items, edges_part, points_part}
 use Rattle.state_law.specs.State.{IsListed}
 use Rattle.mesh_check.specs.Parts.{NamesItsPoints, RowJoins}
 

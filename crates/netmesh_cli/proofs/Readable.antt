@@ -17,7 +17,7 @@ use Rattle.in2d_reader.specs.declared.geometry.RawGeometry.{RawGeometry}
 use Rattle.in2d_reader.specs.Grammar.{is_known, HasEnds}
 use Rattle.in2d_reader.specs.Normal.{IsDec, IsPointRow, IsSegmentRow, IsMaterialRow, CanPrint}
 use Rattle.geom_check.specs.Placed.{IsReadable, IsReadableNumber, IsReadablePoint, IsReadableSegment, IsReadableMaterial, IsReadableIfAny}
-use Rattle.word_scan.specs.Numerals.{whole_of, value_of, is_whole}
+use Rattle.word_scan.specs.Numerals.{value_of, is_whole}
 use Rattle.call_words.specs.CommandLine.{Given}
 use Rattle.call_words.specs.Commands.{ViewOf, IsSize, IsWholeFrom, HasValue, AreOptions, IsCommand, task_of}
 use Rattle.netmesh_cli.specs.Jobs.{AreInRange, AreFew}

@@ -10,7 +10,6 @@ use Rattle.folder_io.specs.Names.{Files}
 use Rattle.in2d_reader.specs.declared.geometry.RawGeometry.{RawGeometry}
 use Rattle.geom_check.specs.Geometry.{PlanarMap}
 use Rattle.vol_format.specs.declared.Mesh.{Mesh as MeshValue}
-use Rattle.vol_format.specs.declared.refusal.VolRefusal.{VolRefusal}
 use Rattle.netmesh_cli.specs.declared.outcome.Refusal.{Refusal}
 use Rattle.netmesh_cli.specs.declared.outcome.Refusal.TheVariants.{In2d, Geometry, Rules, Vol, Log}
 use Rattle.netmesh_cli.specs.Accepted.{HasGeometry, IsTextFault, IsGeometryFault, HasRules, IsRulesFault}

@@ -1,10 +1,9 @@
 -- The run of the generated geometry: its pieces are those of segments, and what it comes to is one.
 use Rattle.std.proofs.Common.{◌≡◌, ◌≢◌, ℕ, List, sym, ◌∙◌, ap, subst, refl}
-use Rattle.std.specs.Prelude.{All, ℤ}
+use Rattle.std.specs.Prelude.{All}
 use Rattle.rule_reader.specs.declared.rule.Rule.{Rule}
-use Rattle.geom_check.specs.Geometry.{PlanarMap, IsGeometry, IsGeometryOf}
+use Rattle.geom_check.specs.Geometry.{PlanarMap, IsGeometry}
 use Rattle.geom_check.proofs.OneGeometry.{one_geometry}
-use Rattle.size_field.specs.Cutting.{pieces_of}
 use Rattle.size_field.proofs.AllPieces.{all_pieces}
 use Rattle.mesh_run.specs.declared.Options.{Options}
 use Rattle.mesh_run.specs.declared.WholeRun.{WholeRun}
