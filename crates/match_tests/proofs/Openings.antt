@@ -1,93 +1,76 @@
--- The fronts of the tests: the sides of strictly convex polygons are openings.
-use lib.IntN.{pos}
-use lib.Signed.{◌<ℤ◌, ◌≤ℤ◌}
+-- The fronts of the tests: the sides of polygons of three and four corners are openings; an admitted element may be glued.
+use lib.IntN.{ℤ, pos, negsuc}
+use lib.Signed.{◌≤ℤ◌}
 use Prim.Native.Nat.{ℕ, ◌+◌, ◌*◌, ◌-◌, ◌^◌, ◌≤◌}
-use mathlib.Core.Path.{refl}
-use mathlib.Core.List.{List, [], ◌∷◌, map}
+use mathlib.Core.Path.{◌≡◌, refl, sym, ap, subst, ◌∙◌}
+use mathlib.Core.List.{List, [], ◌∷◌, ◌++◌}
+use Rattle.std.specs.Prelude.{true, length}
+use Rattle.std.specs.List.{IsDistinct}
 use native.Mathlib.Omega.{arith}
 use Rattle.std.proofs.lemmas.Int.{ints}
-use Rattle.std.proofs.lemmas.List.Elements.{All-from_recursion}
-use Rattle.std.specs.List.{IsDistinct}
 use Rattle.grid_geom.specs.declared.Point.{Point}
 use Rattle.grid_geom.specs.Area.{shoelace}
-use Rattle.grid_geom.specs.declared.TheConstants.{GRID}
-use Rattle.grid_geom.specs.Bounds.{IsOnGrid, IsWithin}
-use Rattle.grid_geom.specs.Plane.{orient}
-use Rattle.grid_geom.specs.Polygon.{sides, IsStrictlyConvex}
-use Rattle.grid_geom.proofs.Convex.{triangle_convex}
-use Rattle.state_law.specs.State.{IsNumbered, pair_edge}
-use Rattle.state_law.specs.Worked.{place}
+use Rattle.grid_geom.specs.Closed.{same_point}
+use Rattle.grid_geom.specs.Polygon.{sides}
 use Rattle.state_law.proofs.OnePolygon.{polygon_kept}
 use Rattle.state_law.proofs.Region.{region_of}
-use Rattle.front_chain.proofs.Ring.{convex_four}
-use Rattle.front_chain.specs.Front.{IsOpening, numbered_from, or_zero}
+use Rattle.front_chain.specs.Front.{FrontState, IsGluable, IsOpening, or_zero}
+use Rattle.admission.specs.Around.{AreListed}
+use Rattle.admission.specs.Admission.{entered, MayFollow}
+use Rattle.admission.proofs.Answered.{gluable}
+use Rattle.rule_match.specs.Applied.{are_new, do_differ}
+use Rattle.rule_match.proofs.GluedParts.{all_distinct}
+use Rattle.match_tests.specs.Polygons.{IsPolygon}
 
--- ---- places
-within : (n : ℕ) → pos n ≤ℤ GRID → IsWithin GRID (pos n)
-within n h = record { least = omega (arith, ints); greatest = omega (arith, ints, h) }
+-- there is room for the numbers of the lines to come
+has_room : (n : ℕ) (z : ℤ) → n ≤ 4 → z ≤ℤ pos (2 ^ 50) → n + 4 * or_zero z ≤ 2 ^ 64 - 2
+has_room n (pos k) f h = omega (arith, ints, f, h)
+has_room n (negsuc k) f h = omega (arith, f)
 
-on_grid : (x y : ℕ) → pos x ≤ℤ GRID → pos y ≤ℤ GRID → IsOnGrid (place x y)
-on_grid x y h i = record { x_within = within x h; y_within = within y i }
+pub three_open : (a b c : Point) → IsPolygon (a ∷ b ∷ c ∷ []) → IsOpening (a ∷ b ∷ c ∷ []) ((1, 2) ∷ (2, 3) ∷ (3, 1) ∷ [])
+three_open a b c h = record {
+  numbered = record {
+    different = h.different;
+    lines_listed = (((omega arith, omega arith), (omega arith, omega arith)), (((omega arith, omega arith), (omega arith, omega arith)), (((omega arith, omega arith), (omega arith, omega arith)), tt)));
+  };
+  on_grid = h.on_grid;
+  region = region_of (sides corners) (sides corners) (sides corners) [] (polygon_kept corners h.convex);
+  bounded = has_room 3 (shoelace (sides corners)) (omega arith) h.small;
+}
+  where
+    corners : List Point
+    corners = a ∷ b ∷ c ∷ []
 
--- ---- a square
-abbrev square : List Point
-square = place 0 0 ∷ place 640000 0 ∷ place 640000 640000 ∷ place 0 640000 ∷ []
+pub four_open : (a b c d : Point) → IsPolygon (a ∷ b ∷ c ∷ d ∷ []) → IsOpening (a ∷ b ∷ c ∷ d ∷ []) ((1, 2) ∷ (2, 3) ∷ (3, 4) ∷ (4, 1) ∷ [])
+four_open a b c d h = record {
+  numbered = record {
+    different = h.different;
+    lines_listed = (((omega arith, omega arith), (omega arith, omega arith)), (((omega arith, omega arith), (omega arith, omega arith)), (((omega arith, omega arith), (omega arith, omega arith)), (((omega arith, omega arith), (omega arith, omega arith)), tt))));
+  };
+  on_grid = h.on_grid;
+  region = region_of (sides corners) (sides corners) (sides corners) [] (polygon_kept corners h.convex);
+  bounded = has_room 4 (shoelace (sides corners)) (omega arith) h.small;
+}
+  where
+    corners : List Point
+    corners = a ∷ b ∷ c ∷ d ∷ []
 
-abbrev square_lines : List (ℕ × ℕ)
-square_lines = (1, 2) ∷ (2, 3) ∷ (3, 4) ∷ (4, 1) ∷ []
+-- ---- places that differ
+none_before : (made : List Point) → are_new [] made ≡ true
+none_before [] = refl
+none_before (p ∷ made) = none_before made
 
-turned : pos 0 <ℤ pos 409600000000
-turned = omega (arith, ints)
-
-square_convex : IsStrictlyConvex square
-square_convex = convex_four (place 0 0) (place 640000 0) (place 640000 640000) (place 0 640000) turned turned turned turned turned turned turned turned
-
-square_numbered : IsNumbered (record { points = square; front = numbered_from 1 square_lines; next = 5; elements = [] })
+none_listed : IsDistinct same_point []
 unfolding IsDistinct
-square_numbered = record {
-  different = ((refl, (refl, (refl, tt))), ((refl, (refl, tt)), ((refl, tt), (tt, tt))));
-  lines_listed = (((omega arith, omega arith), (omega arith, omega arith)), (((omega arith, omega arith), (omega arith, omega arith)), (((omega arith, omega arith), (omega arith, omega arith)), (((omega arith, omega arith), (omega arith, omega arith)), tt))));
-}
+none_listed = tt
 
-pub square_opens : IsOpening square square_lines
-square_opens = record {
-  numbered = square_numbered;
-  on_grid = All-from_recursion IsOnGrid square (on_grid 0 0 (omega (arith, ints)) (omega (arith, ints)), (on_grid 640000 0 (omega (arith, ints)) (omega (arith, ints)), (on_grid 640000 640000 (omega (arith, ints)) (omega (arith, ints)), (on_grid 0 640000 (omega (arith, ints)) (omega (arith, ints)), tt))));
-  region = region_of (sides square) (sides square) (sides square) [] (polygon_kept square square_convex);
-  bounded = omega arith;
-}
+pub all_differ : (made : List Point) → do_differ made ≡ true → IsDistinct same_point made
+all_differ made h = all_distinct [] made none_listed (none_before made) h
 
--- ---- a triangle on the same line, with its third corner above the middle
-abbrev triangle : ℕ → List Point
-triangle height = place 0 0 ∷ place 640000 0 ∷ place 320000 height ∷ []
+-- ---- an element that may follow may be glued, once memory is taken
+no_more : (ps : List Point) → ps ≡ ps ++ []
+no_more [] = refl
+no_more (p ∷ ps) = ap (λ (qs : List Point). p ∷ qs) (no_more ps)
 
-abbrev triangle_lines : List (ℕ × ℕ)
-triangle_lines = (1, 2) ∷ (2, 3) ∷ (3, 1) ∷ []
-
-triangle_numbered : (height : ℕ) → IsNumbered (record { points = triangle height; front = numbered_from 1 triangle_lines; next = 4; elements = [] })
-unfolding IsDistinct
-triangle_numbered height = record {
-  different = ((refl, (refl, tt)), ((refl, tt), (tt, tt)));
-  lines_listed = (((omega arith, omega arith), (omega arith, omega arith)), (((omega arith, omega arith), (omega arith, omega arith)), (((omega arith, omega arith), (omega arith, omega arith)), tt)));
-}
-
-triangle_opens : (height : ℕ) → pos height ≤ℤ GRID → pos 0 <ℤ orient (place 0 0) (place 640000 0) (place 320000 height) →
-    3 + 4 * or_zero (shoelace (map (pair_edge (triangle height)) triangle_lines)) ≤ 2 ^ 64 - 2 → IsOpening (triangle height) triangle_lines
-triangle_opens height h o b = record {
-  numbered = triangle_numbered height;
-  on_grid = All-from_recursion IsOnGrid (triangle height) (on_grid 0 0 (omega (arith, ints)) (omega (arith, ints)), (on_grid 640000 0 (omega (arith, ints)) (omega (arith, ints)), (on_grid 320000 height (omega (arith, ints)) h, tt)));
-  region = region_of (sides (triangle height)) (sides (triangle height)) (sides (triangle height)) [] (polygon_kept (triangle height) (triangle_convex (place 0 0) (place 640000 0) (place 320000 height) o));
-  bounded = b;
-}
-
-low_turned : pos 0 <ℤ pos 192000000000
-low_turned = omega (arith, ints)
-
-pub low_opens : IsOpening (triangle 300000) triangle_lines
-low_opens = triangle_opens 300000 (omega (arith, ints)) low_turned (omega arith)
-
-high_turned : pos 0 <ℤ pos 576000000000
-high_turned = omega (arith, ints)
-
-pub high_opens : IsOpening (triangle 900000) triangle_lines
-high_opens = triangle_opens 900000 (omega (arith, ints)) high_turned (omega arith)
+pub one_gluable : (f g : FrontState) (ns : List ℕ) → MayFollow (entered f []) (ns ∷ []) → length ns ≡ 3 → AreListed (length f.points) ns → g.points ≡ f.points → g.lines ≡ f.lines → g.next ≡ f.next → IsGluable g ns
+one_gluable f g ns m e l points lines next = gluable f g [] [] [] ns m (record { points = points ∙ no_more f.points; lines = lines; next = next }) e (subst (λ (ps : List Point). AreListed (length ps) ns) (sym points) l)

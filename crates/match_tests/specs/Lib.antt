@@ -1,0 +1,2 @@
+-- Polygons: corners of which a front may be opened.
+pub mod Polygons

@@ -4,9 +4,9 @@
 // exactly at (0, 0), (1, 0), (1, 1) and (0, 1).
 ghost use Rattle.std.specs.Prelude.{◌≡◌, ◌≤◌, ◌<◌, length};
 
-use crate::enumeration::{Line, Pick, least};
-use crate::fronts::{high, low, ring, square, triangle};
+use crate::enumeration::{Line, Pick, candidates, least};
 use crate::reading::read;
+use crate::texts::{EDGES, LOOSE, TIES};
 use front_chain::Front;
 use grid_geom::{Point, on_grid};
 use rule_maps::{Frame, RuleSet};
@@ -19,77 +19,7 @@ use std::test::Fail;
 use steps::Steps;
 
 /// The size everywhere.
-const SIZE: u64 = 640_000;
-
-/// Ties: the third point of the first two rules may be any front point, so each has several candidates, and each
-/// application of the second is one of the first. The third is of greater quality.
-const TIES: &[u8] = b"rule \"Loose\"
-mappoints (0, 0); (1, 0); (0.5, 0.866) { 0, 0, 0 };
-maplines (1, 2) del;
-newlines (1, 3); (3, 2);
-freearea (0, 0); (1, 0) { 1 X2 } { 1 Y2 }; (0.5, 0.866) { 1 X3 } { 1 Y3 };
-elements (1, 2, 3);
-endrule
-rule \"Twin\"
-mappoints (0, 0); (1, 0); (0.5, 0.866) { 0, 0, 0 };
-maplines (1, 2) del;
-newlines (1, 3); (3, 2);
-freearea (0, 0); (1, 0) { 1 X2 } { 1 Y2 }; (0.5, 0.866) { 1 X3 } { 1 Y3 };
-elements (1, 2, 3);
-endrule
-rule \"New\"
-quality 2
-mappoints (0, 0); (1, 0);
-maplines (1, 2) del;
-newpoints (0.5, 0.866) { 0.5 X2 } { };
-newlines (1, 3); (3, 2);
-freearea (0, 0); (1, 0) { 1 X2 } { }; (0.5, 0.866) { 0.5 X2 } { };
-elements (1, 2, 3);
-endrule
-";
-
-/// Tolerances at their edge: over a side of the square the third point is 1 below its place, which weighs 0.8 in the
-/// last rule, as much as class 1 allows, and 0.8001 in the second. The first wants a point left of a side's end.
-const EDGES: &[u8] = b"rule \"Turn\"
-mappoints (0, 0); (1, 0); (1, 1); (0, 1);
-maplines (1, 2) del; (2, 3) del; (3, 4) del; (4, 1) del;
-freearea (0, 0); (1, 0) { 1 X2 } { 1 Y2 }; (1, 1) { 1 X3 } { 1 Y3 }; (0, 1) { 1 X4 } { 1 Y4 };
-elements (1, 2, 3); (1, 3, 4);
-orientations (1, 2, 3); (2, 3, 3);
-endrule
-rule \"Past\"
-mappoints (0, 0); (1, 0); (0, 2) { 1, 0, 0.8001 };
-maplines (1, 2) del; (3, 1) del { 0, 0, 0 };
-newlines (3, 2);
-freearea (0, 0); (1, 0) { 1 X2 } { 1 Y2 }; (0, 2) { 1 X3 } { 1 Y3 };
-elements (1, 2, 3);
-endrule
-rule \"At\"
-mappoints (0, 0); (1, 0); (1, 2) { 1, 0, 0.8 };
-maplines (1, 2) del; (2, 3) del { 0, 0, 0 };
-newlines (1, 3);
-freearea (0, 0); (1, 0) { 1 X2 } { 1 Y2 }; (1, 2) { 1 X3 } { 1 Y3 };
-elements (1, 2, 3);
-endrule
-";
-
-/// Loose starts: a front line anywhere across the base, and a point anywhere.
-const LOOSE: &[u8] = b"rule \"Across\"
-mappoints (0, 0); (1, 0); (1, 1) { 0, 0, 0 }; (0, 1) { 0, 0, 0 };
-maplines (1, 2) del; (3, 4) del { 0, 0, 0 };
-newlines (3, 2); (1, 4);
-freearea (0, 0); (1, 0) { 1 X2 } { 1 Y2 }; (1, 1) { 1 X3 } { 1 Y3 }; (0, 1) { 1 X4 } { 1 Y4 };
-elements (1, 2, 3); (1, 3, 4);
-endrule
-rule \"Any\"
-quality 2
-mappoints (0, 0); (1, 0); (0.5, 1) { 0, 0, 0 };
-maplines (1, 2) del;
-newlines (1, 3); (3, 2);
-freearea (0, 0); (1, 0) { 1 X2 } { 1 Y2 }; (0.5, 1) { 1 X3 } { 1 Y3 };
-elements (1, 2, 3);
-endrule
-";
+pub const SIZE: u64 = 640_000;
 
 /// The frame of a line between two points.
 fn frame_of(a: Point, b: Point) -> Result<Frame, Fail> {
@@ -119,7 +49,7 @@ fn all_lines(alloc: Global, front: &Front) -> Result<Vec<(u64, u64)>, Fail> {
 }
 
 /// The front's line with these ends at a class.
-fn line_of(alloc: Global, front: &Front, ends: (u64, u64), class: u32) -> Result<Line, Fail> {
+pub fn line_of(alloc: Global, front: &Front, ends: (u64, u64), class: u32) -> Result<Line, Fail> {
     let frame = frame_of(place_of(front, ends.0)?, place_of(front, ends.1)?)?;
     Ok(Line {
         from: ends.0,
@@ -171,7 +101,7 @@ fn is_same(application: &Application, pick: &Pick) -> bool {
 }
 
 /// The number of the rule of both answers, 0 where neither has one.
-fn rule_of(application: &Option<Application>, pick: &Option<Pick>) -> Result<u64, Fail> {
+fn rule_of(application: &Option<Application>, pick: Option<&Pick>) -> Result<u64, Fail> {
     match (application, pick) {
         (None, None) => Ok(0),
         (Some(a), Some(p)) => {
@@ -196,120 +126,33 @@ fn found(alloc: Global, front: &Front, text: &[u8], class: u32) -> Result<u64, F
         if let Some(ends) = front.line(n) {
             let line = line_of(alloc, front, ends, class)?;
             let application = best_of(alloc, front, &set, n, class)?;
-            let rule = rule_of(&application, &least(alloc, front, &line, &set)?)?;
+            let picks = candidates(alloc, front, &line, &set)?;
+            let rule = rule_of(&application, least(&picks))?;
             digits = digits.saturating_mul(10).saturating_add(rule);
         }
     }
     Ok(digits)
 }
 
-/// Whether the two find the same on each line at classes 1, 2 and 6, and by these rules.
-fn agree(alloc: Global, front: &Front, text: &[u8], rules: (u64, u64, u64)) -> Result<(), Fail>
+/// The rules that are found on each line at classes 1, 2 and 6, as digits.
+pub type Digits = (u64, u64, u64);
+
+/// The rules of a text that are found.
+fn digits(alloc: Global, front: &Front, text: &[u8]) -> Result<Digits, Fail>
     requires { length text.now ≤ 1048576 }
 {
-    let (first, second) = (found(alloc, front, text, 1)?, found(alloc, front, text, 2)?);
-    if (first, second, found(alloc, front, text, 6)?) != rules {
-        return Err("these rules are found".into());
-    }
-    Ok(())
+    Ok((
+        found(alloc, front, text, 1)?,
+        found(alloc, front, text, 2)?,
+        found(alloc, front, text, 6)?,
+    ))
 }
 
-#[test]
-fn ties_on_a_square(rt: HostRuntime) -> Result<(), Fail> {
-    let front = square(rt.alloc())?;
-    agree(rt.alloc(), &front, TIES, (1111, 3333, 3333))
-}
-
-#[test]
-fn edges_on_a_square(rt: HostRuntime) -> Result<(), Fail> {
-    let front = square(rt.alloc())?;
-    agree(rt.alloc(), &front, EDGES, (3333, 2222, 2222))
-}
-
-#[test]
-fn loose_on_a_square(rt: HostRuntime) -> Result<(), Fail> {
-    let front = square(rt.alloc())?;
-    agree(rt.alloc(), &front, LOOSE, (1111, 1111, 1111))
-}
-
-#[test]
-fn ties_on_a_triangle(rt: HostRuntime) -> Result<(), Fail> {
-    let front = triangle(rt.alloc())?;
-    agree(rt.alloc(), &front, TIES, (111, 111, 111))
-}
-
-#[test]
-fn edges_on_a_triangle(rt: HostRuntime) -> Result<(), Fail> {
-    let front = triangle(rt.alloc())?;
-    agree(rt.alloc(), &front, EDGES, (3, 203, 222))
-}
-
-#[test]
-fn loose_on_a_triangle(rt: HostRuntime) -> Result<(), Fail> {
-    let front = triangle(rt.alloc())?;
-    agree(rt.alloc(), &front, LOOSE, (0, 222, 222))
-}
-
-#[test]
-fn ties_on_a_low_triangle(rt: HostRuntime) -> Result<(), Fail> {
-    let front = low(rt.alloc())?;
-    agree(rt.alloc(), &front, TIES, (111, 111, 111))
-}
-
-#[test]
-fn edges_on_a_low_triangle(rt: HostRuntime) -> Result<(), Fail> {
-    let front = low(rt.alloc())?;
-    agree(rt.alloc(), &front, EDGES, (0, 0, 222))
-}
-
-#[test]
-fn loose_on_a_low_triangle(rt: HostRuntime) -> Result<(), Fail> {
-    let front = low(rt.alloc())?;
-    agree(rt.alloc(), &front, LOOSE, (0, 222, 222))
-}
-
-#[test]
-fn ties_on_a_high_triangle(rt: HostRuntime) -> Result<(), Fail> {
-    let front = high(rt.alloc())?;
-    agree(rt.alloc(), &front, TIES, (111, 311, 311))
-}
-
-#[test]
-fn edges_on_a_high_triangle(rt: HostRuntime) -> Result<(), Fail> {
-    let front = high(rt.alloc())?;
-    agree(rt.alloc(), &front, EDGES, (200, 223, 222))
-}
-
-#[test]
-fn loose_on_a_high_triangle(rt: HostRuntime) -> Result<(), Fail> {
-    let front = high(rt.alloc())?;
-    agree(rt.alloc(), &front, LOOSE, (0, 222, 222))
-}
-
-#[test]
-fn ties_on_a_ring(rt: HostRuntime) -> Result<(), Fail> {
-    let front = ring(rt.alloc())?;
-    agree(
-        rt.alloc(),
-        &front,
-        TIES,
-        (11_111_111, 11_111_111, 11_111_111),
-    )
-}
-
-#[test]
-fn edges_on_a_ring(rt: HostRuntime) -> Result<(), Fail> {
-    let front = ring(rt.alloc())?;
-    agree(rt.alloc(), &front, EDGES, (0, 0, 0))
-}
-
-#[test]
-fn loose_on_a_ring(rt: HostRuntime) -> Result<(), Fail> {
-    let front = ring(rt.alloc())?;
-    agree(
-        rt.alloc(),
-        &front,
-        LOOSE,
-        (11_111_111, 22_221_111, 22_221_111),
-    )
+/// The rules that are found of each text: ties, edges of tolerances, and loose starts.
+pub fn rules_found(alloc: Global, front: &Front) -> Result<(Digits, Digits, Digits), Fail> {
+    Ok((
+        digits(alloc, front, TIES)?,
+        digits(alloc, front, EDGES)?,
+        digits(alloc, front, LOOSE)?,
+    ))
 }

@@ -1,6 +1,6 @@
-// The least candidate of a line by plain enumeration: every rule, every assignment of listed points to its mapped
-// points, each judged by the definition (rule_match/specs/Candidate.antt), and the least kept. It leaves nothing
-// out early. Local places, new points, zones, what is in their way, and gluing are asked of the crates below.
+// The candidates of a line by plain enumeration, and the least of them: every rule, every assignment of listed points
+// to its mapped points, each judged by the definition (rule_match/specs/Candidate.antt). It leaves nothing out early.
+// Local places, new points, zones, what is in their way, and gluing are asked of the crates below.
 ghost use Rattle.std.specs.Prelude.{◌≡◌, ◌≤◌, length, true, IsTrue};
 ghost use Rattle.std.specs.List.{All};
 ghost use Rattle.rule_maps.specs.Frame.{IsInRange};
@@ -233,50 +233,55 @@ fn assignment(alloc: Global, code: u64, base: u64, count: usize) -> Result<Vec<u
     Ok(numbers)
 }
 
-/// The better of the two; of equals the first.
-fn better(first: Option<Pick>, second: Option<Pick>) -> Option<Pick> {
-    match (first, second) {
-        (Some(a), Some(b)) => {
-            if is_less(b.badness, a.badness) {
-                Some(b)
-            } else {
-                Some(a)
-            }
-        }
-        (Some(a), None) => Some(a),
-        (None, other) => other,
-    }
-}
-
-/// The least candidate by one rule: all assignments, in rising order.
-fn least_of(
+/// Adds the candidates by one rule: all assignments, in rising order.
+fn add_candidates(
     alloc: Global,
     front: &Front,
     line: &Line,
     c: &Compiled<'_>,
     rule: usize,
-) -> Result<Option<Pick>, Fail> {
+    picks: &mut Vec<Pick>,
+) -> Result<(), Fail> {
     let count = c.rule().points.as_slice().len();
-    let mut best = None;
     for code in 0..front.points().saturating_pow(count as u32) {
         let numbers = assignment(alloc, code, front.points(), count)?;
-        if do_points_hold(alloc, front, line, c.rule(), &numbers)? {
-            best = better(best, candidate(alloc, front, line, c, rule, &numbers)?);
+        if do_points_hold(alloc, front, line, c.rule(), &numbers)?
+            && let Some(pick) = candidate(alloc, front, line, c, rule, &numbers)?
+        {
+            picks.push(pick)?;
         }
     }
-    Ok(best)
+    Ok(())
 }
 
-/// The least candidate over all rules, in rising order.
-pub fn least(
+/// All candidates: rule after rule, and of each rule in rising order.
+pub fn candidates(
     alloc: Global,
     front: &Front,
     line: &Line,
     rules: &RuleSet<'_>,
-) -> Result<Option<Pick>, Fail> {
-    let mut best = None;
+) -> Result<Vec<Pick>, Fail> {
+    let mut picks = Vec::new(alloc);
     for k in 0..rules.count() {
-        best = better(best, least_of(alloc, front, line, rules.get(k + 1), k + 1)?);
+        add_candidates(alloc, front, line, rules.get(k + 1), k + 1, &mut picks)?;
     }
-    Ok(best)
+    Ok(picks)
+}
+
+/// The least candidate: of equals the first.
+pub fn least(picks: &[Pick]) -> Option<&Pick> {
+    let mut best: Option<&Pick> = None;
+    for pick in picks {
+        best = match best {
+            None => Some(pick),
+            Some(other) => {
+                if is_less(pick.badness, other.badness) {
+                    Some(pick)
+                } else {
+                    Some(other)
+                }
+            }
+        };
+    }
+    best
 }

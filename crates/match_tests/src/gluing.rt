@@ -75,7 +75,7 @@ fn are_new(front: &Front, made: &[Point]) -> bool
 }
 
 /// Whether no two of the places are the same.
-fn do_differ(made: &[Point]) -> bool
+pub fn do_differ(made: &[Point]) -> bool
     ensures { result ≡ do_differ made.now }
 {
     match made {
@@ -93,7 +93,7 @@ fn are_apart(front: &Front, made: &[Point]) -> bool
 }
 
 /// Whether the places are new and different, and on the grid.
-fn may_be_listed(front: &Front, made: &[Point]) -> bool
+pub fn may_be_listed(front: &Front, made: &[Point]) -> bool
     ensures on { IsTrue result → All IsOnGrid made.now }
     ensures different { IsTrue result → IsDistinct same_point (front.now.points ++ made.now) }
 {
@@ -115,7 +115,7 @@ fn is_listed(count: u64, n: u64) -> bool
 }
 
 /// Whether the corners are those of so many points.
-fn are_listed(count: u64, element: &[u64]) -> bool
+pub fn are_listed(count: u64, element: &[u64]) -> bool
     ensures { IsTrue result ↔ AreListed count element.now }
 {
     match element {

@@ -5,6 +5,8 @@
 #![tactic(auto)]
 
 #[cfg(test)]
+mod cases;
+#[cfg(test)]
 mod compared;
 #[cfg(test)]
 mod enumeration;
@@ -15,8 +17,12 @@ mod gluing;
 #[cfg(test)]
 mod least;
 #[cfg(test)]
+mod looked_again;
+#[cfg(test)]
 mod places;
 #[cfg(test)]
 mod reading;
+#[cfg(test)]
+mod texts;
 #[cfg(test)]
 mod zones;

@@ -1,6 +1,6 @@
 // Worked by hand: the zone of one rule on the line from (0, 0) to (640000, 0), and three fronts on that line.
 
-use crate::fronts::{high, low, square};
+use crate::fronts::{of_three, square};
 use crate::places::all_in_range;
 use crate::reading::read;
 use free_zone::{Blocker, Zone};
@@ -63,14 +63,14 @@ fn the_far_side_of_a_square_is_in_the_way(rt: HostRuntime) -> Result<(), Fail> {
 
 #[test]
 fn a_low_corner_is_in_the_way(rt: HostRuntime) -> Result<(), Fail> {
-    let front = low(rt.alloc())?;
+    let front = of_three(rt.alloc(), (0, 0), (640_000, 0), (320_000, 300_000))?;
     assert_eq!(rt; answer(rt.alloc(), &front)?, Some(Blocker::Point(3)));
     Ok(())
 }
 
 #[test]
 fn nothing_is_in_the_way_below_a_high_corner(rt: HostRuntime) -> Result<(), Fail> {
-    let front = high(rt.alloc())?;
+    let front = of_three(rt.alloc(), (0, 0), (640_000, 0), (320_000, 900_000))?;
     assert_eq!(rt; answer(rt.alloc(), &front)?, None);
     Ok(())
 }
